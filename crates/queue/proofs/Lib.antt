@@ -1,0 +1,4 @@
+pub mod Lexical
+pub mod Slides
+pub mod Arranged
+pub mod Batches

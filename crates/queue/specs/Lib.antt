@@ -1,0 +1,5 @@
+pub mod Orders
+pub mod Entries
+pub mod Lists
+pub mod Lent
+pub mod Law

@@ -1,0 +1,13 @@
+pub mod Lexed
+pub mod Steps
+pub mod Lined
+pub mod Decimal
+pub mod Fills
+pub mod Consuming
+pub mod Roads
+pub mod Spelling
+pub mod Sound
+pub mod Fits
+pub mod Back
+pub mod Complete
+pub mod Loads

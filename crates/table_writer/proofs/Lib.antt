@@ -1,0 +1,3 @@
+pub mod Pens
+pub mod Clips
+pub mod Writes

@@ -1,0 +1,13 @@
+pub mod Rounding
+pub mod Rising
+pub mod Ranking
+pub mod Searching
+pub mod Padding
+pub mod Timing
+pub mod Verdicts
+pub mod Plans
+pub mod Rows
+pub mod Inverse
+pub mod Ordering
+pub mod Sounding
+pub mod Invariant

@@ -1,0 +1,9 @@
+pub mod Handles
+pub mod Objects
+pub mod Answers
+pub mod Calls
+pub mod Steps
+pub mod Start
+pub mod Room
+pub mod Graph
+pub mod Laws

@@ -1,0 +1,3 @@
+pub mod Collections
+pub mod Tables
+pub mod Examples

@@ -1,5 +1,5 @@
 -- What is known of figures that admission answers.
-use Rattle.std.proofs.Common.{◌≡◌, ℕ, zero, suc, ◌+◌, ◌-◌, ◌<◌, ◌≤◌, Bool, true, false, cond, ◌&&◌, ltb, List, [], ◌∷◌, ◌++◌, length, get_or, take, Some, None, Ok, Err, Option, Result, sym, refl, ap, ◌∙◌, subst, inl, inr, arith}
+use Rattle.std.proofs.Common.{◌≡◌, ℕ, zero, suc, ◌+◌, ◌-◌, ◌<◌, ◌≤◌, Bool, true, ltb, List, [], ◌∷◌, ◌++◌, length, get_or, take, Some, None, Ok, Err, Option, Result, sym, refl, ap, ◌∙◌, subst, inl, inr, arith}
 use Rattle.std.proofs.lemmas.List.{append-nil, append_assoc}
 use Rattle.std.proofs.lemmas.Bool.{cases_Bool, cases_eq, cond-true, cond-false, both_ways, ltb-true, ltb-false}
 use Rattle.fault.specs.Told.{Told, answered, refused, nowhere}
@@ -12,9 +12,8 @@ use Rattle.admission.specs.declared.figures.Room.{Room}
 use Rattle.admission.specs.declared.figures.Bounds.{Bounds}
 use Rattle.admission.specs.declared.figures.Figures.{Figures}
 use Rattle.admission.specs.Demand.{DoneIn, Least, no_task}
-use Rattle.admission.specs.Ranks.{ranked}
 use Rattle.admission.specs.Search.{first_from, least, last_from, largest}
-use Rattle.admission.specs.Admission.{done_in, timed, responses, room_for, steps_of, words_fit, handles_fit, fits, padded, sized, collected, flipped, responded, weighed, figured, figures_of, admission}
+use Rattle.admission.specs.Admission.{done_in, timed, responses, room_for, steps_of, words_fit, handles_fit, fits, padded, sized, collected, flipped, responded, weighed, figured, figures_of}
 use Rattle.admission.proofs.Searching.{done_true, true_done}
 
 answer_or : {A : Type 0} → A → Told A → A

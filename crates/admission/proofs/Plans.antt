@@ -1,6 +1,6 @@
 -- From bounds to figures.
-use Rattle.std.proofs.Common.{◌≡◌, ℕ, ◌-◌, ◌≤◌, List, length, take, sym, refl, ap, ◌∙◌, subst, arith}
-use Rattle.fault.specs.Told.{Told, answered, refused, Refusal}
+use Rattle.std.proofs.Common.{◌≡◌, ℕ, ◌-◌, List, length, take, ap, ◌∙◌, arith}
+use Rattle.fault.specs.Told.{Told}
 use Rattle.table.specs.declared.rows.KindRow.{KindRow}
 use Rattle.table.specs.declared.rows.TaskRow.{TaskRow}
 use Rattle.table.specs.Format.{Rows}

@@ -1,5 +1,5 @@
 -- Division that rounds up.
-use Rattle.std.proofs.Common.{◌≡◌, ℕ, suc, ◌+◌, ◌-◌, ◌*◌, ◌/◌, ◌%◌, ◌<◌, ◌≤◌, sym, refl, ap, ◌∙◌, le_trans, mod-lt, div-lt_iff_lt-mul, add-mul, mul-le-mul_left, one-mul, div-add-mod', mul-one, arith}
+use Rattle.std.proofs.Common.{◌≡◌, ℕ, ◌+◌, ◌-◌, ◌*◌, ◌/◌, ◌%◌, ◌<◌, ◌≤◌, le_trans, mod-lt, div-lt_iff_lt-mul, add-mul, mul-le-mul_left, one-mul, div-add-mod', mul-one, arith}
 use Rattle.admission.specs.Demand.{up, RoundsUp}
 
 pub up_covers : (p q : ℕ) → 1 ≤ q → p ≤ up p q * q

@@ -1,10 +1,10 @@
 -- The least and the largest number that passes a test, by their definitions.
-use Rattle.std.proofs.Common.{◌≡◌, ℕ, zero, suc, ◌+◌, ◌-◌, ◌*◌, ◌<◌, ◌≤◌, Bool, true, false, cond, ◌&&◌, leb, List, Some, None, Option, sym, refl, ap, ◌∙◌, inl, inr, mul-le-mul_left, arith}
+use Rattle.std.proofs.Common.{◌≡◌, ℕ, zero, suc, ◌+◌, ◌-◌, ◌*◌, ◌<◌, ◌≤◌, Bool, true, List, Some, None, sym, refl, ap, ◌∙◌, inl, inr, arith}
 use Rattle.std.proofs.lemmas.Bool.{cases_Bool, cases_eq, leb-true, le-leb, cond-true, cond-false, and_parts, and_from}
 use Rattle.admission.specs.declared.task.Task.{Task}
 use Rattle.admission.specs.declared.task.Share.TheVariants.{Words, Objects}
 use Rattle.admission.specs.declared.figures.Room.{Room}
-use Rattle.admission.specs.Demand.{demand, part_of, DoneIn, Least, Never, Settles}
+use Rattle.admission.specs.Demand.{demand, part_of, DoneIn, Least, Never}
 use Rattle.admission.specs.Search.{first_from, least, last_from, largest}
 use Rattle.admission.specs.Admission.{done_in, words_fit, handles_fit, fits}
 use Rattle.admission.proofs.Rising.{EachSized, demand_rises}

@@ -1,5 +1,5 @@
 -- The figures of an accepted table are sound.
-use Rattle.std.proofs.Common.{◌≡◌, ℕ, ◌+◌, ◌-◌, ◌*◌, ◌^◌, ◌<◌, ◌≤◌, true, false, cond, ◌&&◌, eqb, leb, List, [], ◌∷◌, ◌++◌, length, get_or, take, drop, replicate, sym, refl, ap, ◌∙◌, subst, inl, inr, arith}
+use Rattle.std.proofs.Common.{◌≡◌, ℕ, ◌+◌, ◌-◌, ◌*◌, ◌<◌, ◌≤◌, true, eqb, List, [], length, get_or, take, drop, replicate, sym, ap, ◌∙◌, subst, inl, inr, arith}
 use Rattle.std.proofs.lemmas.List.{get_or_append_left, take-append-le}
 use Rattle.std.proofs.ByRecursion.{All-get_or}
 use Rattle.std.proofs.lemmas.Bool.{and_parts, and_from, leb-true, le-leb, cond-true, cond-false, eq-eqb, ne_eqb, cases_lt}
@@ -12,9 +12,8 @@ use Rattle.admission.specs.declared.task.Share.TheVariants.{Words, Objects}
 use Rattle.admission.specs.declared.figures.Bounds.{Bounds}
 use Rattle.admission.specs.declared.figures.Figures.{Figures}
 use Rattle.admission.specs.Demand.{up, DoneIn, Least, no_task, demand, part_of}
-use Rattle.admission.specs.Ranks.{ranked, task_of, row_at, life_of, no_row}
-use Rattle.admission.specs.Search.{least, largest}
-use Rattle.admission.specs.Admission.{done_in, admission, weighed, figured, figures_of, padded, no_kind, live, steps_of, words_fit, handles_fit, fits}
+use Rattle.admission.specs.Ranks.{ranked, row_at, life_of, no_row}
+use Rattle.admission.specs.Admission.{admission, weighed, figures_of, padded, no_kind, live, steps_of, words_fit, handles_fit, fits}
 use Rattle.admission.specs.Sound.{Sound, task, response, tasks_of, ahead, rank, WordsFit, HandlesFit, KindsKept, TimesKept, SharesKept, RanksKept, NumbersKept, LivesKept, OthersKept, ConsumersKept, Responds, RespondsFirst, LivesCounted, StepsCounted, FlipsLate, FlipsFirst, Spans, SpansFirst, PeriodFits, PeriodLongest}
 use Rattle.admission.proofs.Padding.{take_padded}
 use Rattle.admission.proofs.Ranking.{length_ranked}

@@ -1,6 +1,6 @@
 -- Response times, one task after the other.
-use Rattle.std.proofs.Common.{◌≡◌, ℕ, suc, ◌+◌, ◌-◌, ◌<◌, ◌≤◌, List, [], ◌∷◌, ◌++◌, length, get_or, take, drop, set, replicate, Some, None, Ok, Err, Option, Result, sym, refl, ap, ◌∙◌, subst, append_assoc, arith}
-use Rattle.std.proofs.lemmas.List.{take_more, drop_more, drop_all, take_all, length-take-le, append-nil, take_more_set, take-set, get_or-take, take-set-le}
+use Rattle.std.proofs.Common.{◌≡◌, ℕ, ◌+◌, ◌<◌, ◌≤◌, List, [], ◌∷◌, ◌++◌, length, get_or, take, drop, set, Some, None, Ok, Err, Result, sym, refl, ap, ◌∙◌, subst, append_assoc, arith}
+use Rattle.std.proofs.lemmas.List.{take_more, drop_more, drop_all, length-take-le, append-nil, take_more_set, get_or-take}
 use Rattle.admission.specs.declared.task.Task.{Task}
 use Rattle.admission.specs.Demand.{no_task, Few, Sized}
 use Rattle.admission.specs.Search.{least}

@@ -1,5 +1,5 @@
 -- What tasks can ask for in a stretch of time.
-use Rattle.std.specs.Prelude.{◌≡◌, ℕ, ◌+◌, ◌-◌, ◌*◌, ◌/◌, ◌<◌, ◌≤◌, List, length, get_or, sum_by, Option, MatchOption, slice_index_or}
+use Rattle.std.specs.Prelude.{ℕ, ◌+◌, ◌-◌, ◌*◌, ◌/◌, ◌<◌, ◌≤◌, List, length, get_or, sum_by, Option, MatchOption, slice_index_or}
 use Rattle.admission.specs.declared.task.Task.{Task}
 use Rattle.admission.specs.declared.task.Share.{Share}
 use Rattle.admission.specs.declared.task.Share.TheVariants.{Words, Objects}

@@ -1,4 +1,6 @@
 // From the rows of a table to the longest period of the collector, or the bound that breaks.
+#![tactic(auto)]
+
 mod bounds;
 mod figures;
 mod plan;

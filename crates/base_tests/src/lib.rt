@@ -1,4 +1,6 @@
 // Examples at the edges of faults, memories and the queue.
+#![tactic(auto)]
+
 #[cfg(test)]
 mod faults;
 #[cfg(test)]

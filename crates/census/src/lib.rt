@@ -1,4 +1,6 @@
 // The census: how many objects the slots lead to, and how many words these have. It reads a heap and a memory, and changes neither.
+#![tactic(auto)]
+
 ghost use Rattle.std.specs.Prelude.{◌≡◌, ℕ, ◌<◌, ◌≤◌, true, false, ◌≢◌, List, length, MatchResult, slice_index};
 ghost use Rattle.fault.specs.Told.{refusal, told, number_of, place_of, column_of, census as census_layer};
 ghost use Rattle.kinds.specs.Maps.{refers};

@@ -1,4 +1,6 @@
 // The entry for the drawing side, which is written in C.
+#![tactic(auto)]
+
 ghost use Rattle.std.specs.Prelude.{◌≡◌};
 ghost use Rattle.admission.specs.Admitted.{admitted};
 ghost use Rattle.drawing_side.specs.Answer.{answer};

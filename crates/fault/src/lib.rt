@@ -1,4 +1,6 @@
 // Why a call is refused, by which layer, and where.
+#![tactic(auto)]
+
 ghost use Rattle.std.specs.Prelude.{◌≡◌};
 ghost use Rattle.fault.specs.Told.{layer_of, refusal, past_end};
 ghost use Rattle.fault.specs.Words.{layer_word};

@@ -1,4 +1,6 @@
 // Reads a table text from standard input and prints what it foretells.
+#![tactic(auto)]
+
 use releases::foretell;
 use std::io::Read;
 

@@ -1,5 +1,5 @@
 -- The kinds of a heap that begins, one by one; and its spare handles, counted.
-use Rattle.std.proofs.Common.{◌≡◌, ℕ, ◌+◌, ◌-◌, ◌<◌, ◌≤◌, Bool, true, false, cond, ◌&&◌, List, [], ◌∷◌, ◌++◌, length, get_or, take, drop, replicate, sym, refl, ap, ◌∙◌, add-one, arith}
+use Rattle.std.proofs.Common.{◌≡◌, ℕ, ◌+◌, ◌-◌, ◌<◌, ◌≤◌, true, cond, ◌&&◌, List, ◌∷◌, ◌++◌, length, get_or, drop, replicate, refl, ap, ◌∙◌, add-one, arith}
 use lib.Seq.{paste}
 use Rattle.std.proofs.lemmas.List.{drop_more, drop_all, drop-replicate, take-replicate}
 use Rattle.std.proofs.lemmas.List.Edits.{paste_all}

@@ -1,16 +1,16 @@
 -- A call and a step write one word at most, and change nothing where they are refused.
-use Rattle.std.proofs.Common.{◌≡◌, ℕ, Bool, true, false, cond, eqb, ◌≢◌, List, length, get_or, set, sym, refl, ap, ◌∙◌, inl, inr, arith}
+use Rattle.std.proofs.Common.{◌≡◌, ℕ, false, cond, eqb, List, set, sym, refl, ◌∙◌, inl, inr, arith}
 use Rattle.std.proofs.lemmas.List.{get_or-set_other, length-set}
 use Rattle.std.proofs.lemmas.Bool.{cases_Bool, cond_both, cond-true, cond-false}
-use Rattle.fault.specs.Told.{Refusal, Told, answered, refused}
+use Rattle.fault.specs.Told.{Refusal, answered, refused}
 use Rattle.heap.specs.declared.Call.{Call}
 use Rattle.heap.specs.declared.Call.TheVariants.{New, Copy, Drop, Fetch, Put, Read, Write, Same, Kind}
 use Rattle.heap.specs.declared.Heap.{Heap}
 use Rattle.heap.specs.declared.Phase.{Phase}
 use Rattle.heap.specs.declared.Phase.TheVariants.{Idle, Tracing, Sweeping, Clearing}
-use Rattle.heap.specs.Answers.{Ans, absent, ruled, judged, in_heap}
-use Rattle.heap.specs.Calls.{taken, spot, held, calling}
-use Rattle.heap.specs.Steps.{Stepped, step, step_by, goes, stays, after_flip, swept, take_step, copy_step, clear_step}
+use Rattle.heap.specs.Answers.{in_heap}
+use Rattle.heap.specs.Calls.{taken, spot, held}
+use Rattle.heap.specs.Steps.{Stepped, step_by, goes, stays, after_flip, swept, take_step, copy_step}
 use Rattle.heap.specs.Laws.{OneWord, SmallCall, SmallStep}
 
 unchanged : (m : List ℕ) → OneWord m m

@@ -1,5 +1,5 @@
 -- What the heap's calls and steps answer, and how a result of the code tells it.
-use Rattle.std.specs.Prelude.{ℕ, Bool, true, false, cond, Some, None, Option, Result, ◌==◌}
+use Rattle.std.specs.Prelude.{ℕ, Bool, cond, Some, None, Option, Result, ◌==◌}
 use Rattle.fault.specs.declared.Fault.{Fault}
 use Rattle.fault.specs.Told.{Refusal, Told, answered, refused, told, nowhere, past_end, heap as heap_layer}
 use Rattle.heap.specs.declared.Answer.{Answer}

@@ -1,5 +1,5 @@
 -- The nine calls. Checks and answers are read off a view, which heap and object graph both have.
-use Rattle.std.specs.Prelude.{ℕ, ◌+◌, ◌-◌, Bool, true, false, cond, not, List, length, ◌==◌, nat_le, nat_lt, slice_index, slice_set}
+use Rattle.std.specs.Prelude.{ℕ, ◌+◌, ◌-◌, Bool, true, false, cond, List, length, ◌==◌, nat_le, nat_lt, slice_index, slice_set}
 use Rattle.std.specs.Bool.{beq}
 use Rattle.fault.specs.Told.{Told}
 use Rattle.heap.specs.declared.Call.{Call}

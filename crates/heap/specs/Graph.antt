@@ -1,6 +1,6 @@
 -- The object graph: what the calls mean, with no handles, no places and no collector. Objects are numbered from 1 by birth, 0 is none,
 -- and nothing ever leaves.
-use Rattle.std.specs.Prelude.{ℕ, suc, Bool, cond, ◌&&◌, ◌==◌}
+use Rattle.std.specs.Prelude.{ℕ, suc, cond, ◌&&◌, ◌==◌}
 use Rattle.fault.specs.Told.{Told}
 use Rattle.heap.specs.declared.Call.{Call}
 use Rattle.heap.specs.declared.Call.TheVariants.{New, Copy, Drop, Fetch, Put, Read, Write, Same, Kind}

@@ -1,8 +1,7 @@
 -- One step of the collector: what it tells, the heap after it and the memory after it.
-use Rattle.std.specs.Prelude.{ℕ, ◌+◌, ◌-◌, min, Bool, true, false, cond, ◌&&◌, ltb, List, length, ◌==◌, nat_le, nat_lt, slice_index, slice_set}
+use Rattle.std.specs.Prelude.{ℕ, ◌+◌, ◌-◌, min, Bool, true, cond, ◌&&◌, ltb, List, ◌==◌, nat_le, nat_lt, slice_index, slice_set}
 use Rattle.fault.specs.Told.{Refusal, Told, answered, refused}
 use Rattle.heap.specs.declared.Course.{Course}
-use Rattle.heap.specs.declared.Cycle.{Cycle}
 use Rattle.heap.specs.declared.Heap.{Heap}
 use Rattle.heap.specs.declared.Phase.{Phase}
 use Rattle.heap.specs.declared.Phase.TheVariants.{Idle, Tracing, Sweeping, Clearing}

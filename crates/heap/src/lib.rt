@@ -1,5 +1,7 @@
 // Objects behind handles in two semispaces, the calls that tasks make on them, and the collector that moves them step by step.
 // The memory is brought to each call that reads or writes words.
+#![tactic(auto)]
+
 ghost use Rattle.std.specs.Prelude.{◌≡◌};
 ghost use Rattle.fault.specs.Told.{number_of, refusal};
 ghost use Rattle.heap.specs.Answers.{in_heap};

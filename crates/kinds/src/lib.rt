@@ -1,4 +1,6 @@
 // What an object of a kind is made of: how many words, and which of them are references.
+#![tactic(auto)]
+
 ghost use Rattle.std.specs.Prelude.{◌≡◌};
 ghost use Rattle.kinds.specs.Maps.{refers, fits, bits_set, Next};
 

@@ -1,5 +1,5 @@
 -- Zeroing a memory from its first word on, one step at a time.
-use Rattle.std.proofs.Common.{◌≡◌, ℕ, ◌+◌, ◌<◌, ◌≤◌, min, List, [], ◌∷◌, ◌++◌, length, drop, set, replicate, sym, refl, ap, ◌∙◌, arith}
+use Rattle.std.proofs.Common.{◌≡◌, ℕ, ◌+◌, ◌<◌, ◌≤◌, min, List, ◌++◌, length, drop, set, replicate, sym, ◌∙◌, arith}
 use Rattle.std.proofs.lemmas.List.Edits.{fill_more, fill_none}
 use Rattle.std.proofs.lemmas.List.{length-replicate, length-append, length-drop, drop_all}
 use Rattle.memory.specs.Words.{zeroed}

@@ -1,4 +1,6 @@
 // Memories: lists of 32-bit words of fixed length, for reading and for writing.
+#![tactic(auto)]
+
 ghost use Rattle.std.specs.Prelude.{◌≡◌, ℕ, ◌*◌, ◌/◌, List, length, drop};
 ghost use Rattle.fault.specs.Told.{told};
 ghost use Rattle.memory.specs.Words.{Reads, Sets, zeroing, zeroed};

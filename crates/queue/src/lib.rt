@@ -1,4 +1,6 @@
 // One priority queue, smallest first, in a list that the caller lends.
+#![tactic(auto)]
+
 mod entries;
 mod order;
 mod queue;

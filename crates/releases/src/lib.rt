@@ -1,4 +1,6 @@
 // The first releases of a plan, in the order in which they fall.
+#![tactic(auto)]
+
 ghost use Rattle.std.specs.Prelude.{◌≡◌, ℕ, ◌+◌, ◌*◌, ◌≤◌, length, MatchOption};
 ghost use Rattle.std.specs.List.{AllByRecursion as All};
 ghost use Rattle.queue.specs.Lists.{held};

@@ -1,5 +1,5 @@
 -- The first places of a list take those of another.
-use Rattle.std.proofs.Common.{◌≡◌, ℕ, ◌+◌, ◌<◌, ◌≤◌, List, [], ◌∷◌, ◌++◌, length, get_or, take, drop, set, sym, refl, ap, ◌∙◌, arith}
+use Rattle.std.proofs.Common.{◌≡◌, ℕ, ◌+◌, ◌<◌, ◌≤◌, List, [], ◌∷◌, ◌++◌, length, get_or, take, drop, set, sym, ap, ◌∙◌, arith}
 use Rattle.std.proofs.lemmas.List.{set_at, drop_more, take_more, append_assoc, length-take-le}
 
 pub fill_more : {R : Type 0} (old from : List R) (i : ℕ) (x : R) → i < length old → i < length from → x ≡ get_or from i x → set (take i from ++ drop i old) i x ≡ take (i + 1) from ++ drop (i + 1) old

@@ -1,8 +1,8 @@
 -- The first refusal of the text that writes rows, reckoned from the rows.
-use Rattle.std.proofs.Common.{◌≡◌, ℕ, zero, suc, ◌+◌, ◌-◌, ◌^◌, ◌<◌, ◌≤◌, min, Bool, true, false, cond, not, ◌&&◌, eqb, ltb, leb, List, [], ◌∷◌, length, refl, ◌∙◌, inl, inr, arith, pow_mono}
+use Rattle.std.proofs.Common.{◌≡◌, ℕ, zero, suc, ◌+◌, ◌-◌, ◌^◌, ◌<◌, ◌≤◌, min, Bool, true, false, cond, not, eqb, ltb, leb, List, [], ◌∷◌, length, refl, ◌∙◌, inl, inr, arith, pow_mono}
 use Rattle.std.specs.List.{AllByRecursion as All}
-use Rattle.std.proofs.lemmas.Bool.{cond-true, and_from, le-leb, lt-ltb, eq-eqb, ne_eqb, not_from_false}
-use Rattle.fault.specs.Told.{Told, answered, refused}
+use Rattle.std.proofs.lemmas.Bool.{and_from, le-leb, lt-ltb, eq-eqb, ne_eqb, not_from_false}
+use Rattle.fault.specs.Told.{Told, answered}
 use Rattle.table.specs.declared.rows.HeapRow.{HeapRow}
 use Rattle.table.specs.declared.rows.StaticRow.{StaticRow}
 use Rattle.table.specs.declared.rows.KindRow.{KindRow}

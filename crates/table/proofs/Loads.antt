@@ -1,6 +1,6 @@
 -- What a check that is done leaves to answer and to fill.
-use Rattle.std.proofs.Common.{◌≡◌, ℕ, ◌+◌, ◌≤◌, List, ◌++◌, length, take, drop, sym, refl, ap, ◌∙◌, subst, arith}
-use Rattle.std.proofs.lemmas.List.{take_at, length-take-le, length-append, length-drop}
+use Rattle.std.proofs.Common.{◌≡◌, ℕ, ◌≤◌, List, length, take, drop, sym, ap, ◌∙◌, subst, arith}
+use Rattle.std.proofs.lemmas.List.{take_at, length-take-le, length-append}
 use Rattle.fault.specs.Told.{Told, answered, refused, Refusal}
 use Rattle.table.specs.declared.rows.KindRow.{KindRow}
 use Rattle.table.specs.declared.rows.TaskRow.{TaskRow}

@@ -1,5 +1,5 @@
 -- The road through a text, from each of its parts on.
-use Rattle.std.proofs.Common.{◌≡◌, ℕ, zero, suc, ◌+◌, ◌<◌, ◌≤◌, min, Bool, true, false, cond, not, ◌||◌, List, [], ◌∷◌, length, take, codes, sym, refl, ap, ◌∙◌, arith}
+use Rattle.std.proofs.Common.{◌≡◌, ℕ, zero, suc, ◌+◌, ◌<◌, ◌≤◌, min, true, false, cond, not, ◌||◌, List, [], ◌∷◌, length, take, codes, sym, refl, ap, ◌∙◌, arith}
 use Rattle.fault.specs.Told.{Told, answered, refused, Refusal}
 use Rattle.table.specs.declared.rows.HeapRow.{HeapRow}
 use Rattle.table.specs.declared.rows.StaticRow.{StaticRow}

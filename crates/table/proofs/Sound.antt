@@ -1,5 +1,5 @@
 -- A text that is accepted writes its rows, and they keep the limits.
-use Rattle.std.proofs.Common.{◌≡◌, ℕ, zero, suc, ◌+◌, ◌-◌, ◌^◌, ◌<◌, ◌≤◌, min, Bool, true, false, cond, not, ◌&&◌, ◌||◌, eqb, leb, ◌⊎◌, List, [], ◌∷◌, ◌++◌, length, get_or, drop, codes, decimal, sym, refl, ap, ◌∙◌, subst, inl, inr, arith, pow_pos}
+use Rattle.std.proofs.Common.{◌≡◌, ℕ, zero, suc, ◌+◌, ◌≤◌, min, Bool, true, false, cond, not, ◌&&◌, ◌||◌, eqb, leb, List, [], ◌∷◌, ◌++◌, length, get_or, drop, codes, decimal, sym, refl, ap, ◌∙◌, subst, inl, inr, arith, pow_pos}
 use Rattle.std.specs.List.{AllByRecursion as All}
 use Rattle.std.proofs.lemmas.Bool.{and_parts, or_parts, eqb-true, eqb-false, leb-true, not-true}
 use Rattle.std.proofs.lemmas.Slice.Eq.{bytes_eq-Decides}
@@ -10,8 +10,8 @@ use Rattle.table.specs.declared.rows.StaticRow.{StaticRow}
 use Rattle.table.specs.declared.rows.KindRow.{KindRow}
 use Rattle.table.specs.declared.rows.TaskRow.{TaskRow}
 use Rattle.table.specs.Format.{Rows, heap_numbers, static_numbers, kind_numbers, task_numbers, field, fields, line, lines, render}
-use Rattle.table.specs.Limits.{HeapLimits, StaticLimits, KindLimits, EitherLife, TaskLimits, Consumers, Limits}
-use Rattle.table.specs.Checking.{Spot, Read, at, then, refuse, front, after, is_number, digits_value, within, placed, field_value, number, line_end, read_heap, read_static, read_kind, read_task, consumer_low, consumer_high, leads, past_word, one_line, more_lines, check_consumers, unless, none, finish, check_lines, is_whole, check}
+use Rattle.table.specs.Limits.{HeapLimits, StaticLimits, KindLimits, EitherLife, TaskLimits, Consumers}
+use Rattle.table.specs.Checking.{Spot, Read, at, then, front, after, is_number, digits_value, within, placed, field_value, number, line_end, read_heap, read_static, read_kind, read_task, consumer_low, consumer_high, leads, past_word, one_line, more_lines, check_consumers, unless, none, finish, check_lines, is_whole, check}
 use Rattle.table.specs.Laws.{Accepted}
 use Rattle.table.proofs.Spelling.{within_true, front_after, decimal_number}
 

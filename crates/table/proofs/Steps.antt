@@ -1,11 +1,11 @@
 -- The steps of a reader, one equation each.
-use Rattle.std.proofs.Common.{◌≡◌, ℕ, ◌+◌, ◌<◌, ◌≤◌, Bool, true, false, cond, eqb, leb, List, [], ◌∷◌, length, get_or, drop, sym, refl, ap, ◌∙◌, arith}
+use Rattle.std.proofs.Common.{◌≡◌, ℕ, ◌+◌, ◌<◌, ◌≤◌, Bool, true, false, eqb, List, [], ◌∷◌, length, get_or, drop, sym, refl, ap, ◌∙◌, arith}
 use Rattle.std.proofs.lemmas.Slice.Eq.{bytes_eq-Decides}
 use Rattle.std.proofs.lemmas.Bool.{eqb-true, ne_eqb}
 use Rattle.fault.specs.Told.{Told, answered, refused, Refusal}
 use Rattle.std.proofs.lemmas.List.Sums.{prefix_len-le-length}
 use Rattle.table.proofs.Lexed.{length_front}
-use Rattle.table.specs.Checking.{Spot, Read, at, misread, front, after, is_number, digits_value, within, field_value, placed, number, leads, past_word, line_end, inside, none, is_whole}
+use Rattle.table.specs.Checking.{Spot, at, misread, front, after, field_value, placed, number, leads, past_word, line_end, inside, none, is_whole}
 
 pub some_byte : (xs : List ℕ) (b : ℕ) → 0 < b → eqb (get_or xs 0 0) b ≡ true → 1 ≤ length xs
 some_byte [] b h e = absurd (omega (arith, eqb-true 0 b e))

@@ -1,5 +1,5 @@
 -- What a reading answers, and what it leaves in the caller's lists.
-use Rattle.std.specs.Prelude.{ℕ, List, ◌++◌, length, take, drop}
+use Rattle.std.specs.Prelude.{List, ◌++◌, length, take, drop}
 use Rattle.fault.specs.Told.{Told, answered, refused}
 use Rattle.table.specs.declared.rows.KindRow.{KindRow}
 use Rattle.table.specs.declared.rows.TaskRow.{TaskRow}

@@ -1,4 +1,6 @@
 // Many table texts in one input, and what each foretells. A case is a line `== NAME BYTES`, that many bytes, and a line end.
+#![tactic(auto)]
+
 use releases::foretell;
 use std::io::{Read, Write};
 

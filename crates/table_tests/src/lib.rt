@@ -1,4 +1,6 @@
 // Texts with the refusals that they get, rows that the writer refuses, and tables that are read and written.
+#![tactic(auto)]
+
 #[cfg(test)]
 mod tests {
     use fault::{Fault, Layer};

@@ -1,14 +1,12 @@
 -- Of a table with too many rows, the first that is too many decides as well as all of them.
-use Rattle.std.proofs.Common.{◌≡◌, ℕ, zero, suc, ◌+◌, ◌^◌, ◌<◌, ◌≤◌, Bool, true, false, cond, ltb, leb, ◌⊎◌, List, [], ◌∷◌, length, take, sym, refl, ap, ◌∙◌, inl, inr, ⊎_elim, arith}
-use Rattle.std.proofs.lemmas.List.{take_all, length-take}
+use Rattle.std.proofs.Common.{◌≡◌, ℕ, zero, suc, ◌+◌, ◌^◌, ◌<◌, ◌≤◌, ltb, List, [], ◌∷◌, length, take, sym, refl, ap, ◌∙◌, ⊎_elim, arith}
+use Rattle.std.proofs.lemmas.List.{take_all}
 use Rattle.std.proofs.lemmas.Bool.{cases_lt, cond-true}
-use Rattle.fault.specs.Told.{Told, answered, refused, Refusal}
-use Rattle.table.specs.declared.rows.KindRow.{KindRow}
-use Rattle.table.specs.declared.rows.TaskRow.{TaskRow}
+use Rattle.fault.specs.Told.{Told, answered, refused}
 use Rattle.table.specs.Format.{Rows, render}
-use Rattle.table.specs.Checking.{refuse, within, past, check_consumers, unless, check_lines, is_whole, check}
+use Rattle.table.specs.Checking.{within, past, check_consumers, unless, check_lines, is_whole, check}
 use Rattle.table.proofs.Sound.{clash, cond_ok}
-use Rattle.table.proofs.Fits.{Cell, heap_cells, static_cells, kind_cells, task_cells, meet, cells_fit, rows_fit, some_row, fits}
+use Rattle.table.proofs.Fits.{Cell, heap_cells, static_cells, kind_cells, task_cells, cells_fit, rows_fit, some_row, fits}
 use Rattle.table.proofs.Back.{lines_render}
 use Rattle.table.proofs.Complete.{render_whole}
 use Rattle.table_writer.specs.Writing.{rows_of}

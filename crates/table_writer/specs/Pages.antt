@@ -1,5 +1,5 @@
 -- Text on a page.
-use Rattle.std.specs.Prelude.{ℕ, List, [], ◌∷◌, take, decimal}
+use Rattle.std.specs.Prelude.{ℕ, List, ◌∷◌, take, decimal}
 use Rattle.table_writer.specs.declared.page.Page.{Page}
 
 -- what stands on a page

@@ -20,7 +20,7 @@ trait Row {
 }
 
 impl Row for KindRow {
-    ghost text = { λ r. line (codes "kind") (kind-numbers r) [] };
+    ghost text = { λ r. line (codes "kind") (kind_numbers r) [] };
 
     fn put(&self, page: &mut Page) {
         page.line(b"kind", &[self.size, self.map]);
@@ -28,7 +28,7 @@ impl Row for KindRow {
 }
 
 impl Row for TaskRow {
-    ghost text = { λ r. line (codes "task") (task-numbers r) [] };
+    ghost text = { λ r. line (codes "task") (task_numbers r) [] };
 
     fn put(&self, page: &mut Page) {
         let numbers = [

@@ -1,4 +1,6 @@
 // One job from start to finish, each step printed as a person would read it.
+#![tactic(auto)]
+
 mod memories;
 mod ranks;
 mod tables;

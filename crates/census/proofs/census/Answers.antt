@@ -3,8 +3,8 @@ use Rattle.census.specs.Finds.{Sound, Roomy, nothing}
 use Rattle.census.proofs.Searches.{begins, roomy_begins, rooted_on, counted}
 use Rattle.census.proofs.census.Goals as goal
 
-pub note-slots-requires : goal.note-slots-requires
-note-slots-requires g c =
+pub note_slots-requires : goal.note_slots-requires
+note_slots-requires g c =
     let h = c.args.heap.now in
     record {
       roomy = subst Roomy (sym c.new-finds.ensures) roomy_begins;
@@ -13,14 +13,14 @@ note-slots-requires g c =
 
 pub trace-requires : goal.trace-requires
 trace-requires g c =
-    let e = c.in-ok-note-slots.ensures in
+    let e = c.in_ok-note_slots.ensures in
     record { roomy = e.1; sound = e.0 (g.R.Readable.words c.args.memory.now) }
 
 pub returns : goal.returns
 returns g c =
     let h = c.args.heap.now in
     let m = g.R.Readable.words c.args.memory.now in
-    let a = c.in-ok-note-slots.ensures in
-    let b = c.in-ok-trace.ensures in
+    let a = c.in_ok-note_slots.ensures in
+    let b = c.in_ok-trace.ensures in
     let f = c.trace.new.self in
-    (search rules, search rules, counted h m f _ b.0 b.1 (rooted_on h c.note-slots.new.self f (length h.slots) b.2 a.2) b.3 refl refl)
+    (search rules, search rules, counted h m f _ b.0 b.1 (rooted_on h c.note_slots.new.self f (length h.slots) b.2 a.2) b.3 refl refl)

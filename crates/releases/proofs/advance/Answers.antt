@@ -6,8 +6,8 @@ use Rattle.queue.proofs.Batches.{first_taken, none_taken}
 use Rattle.releases.proofs.Forecasts.{Slight, advanced}
 use Rattle.releases.proofs.advance.Goals as goal
 
-pub next-of-requires : goal.next-of-requires
-next-of-requires c =
+pub next_of-requires : goal.next_of-requires
+next_of-requires c =
     let q = lent c.args.queue.now in
     let t = first_taken c.in-Some.release q c.args.queue.now.within c.in-Some.ensures.value in
     let s = subst (All (Slight c.args.figures.now 8000000)) t.1 c.requires.ranks in
@@ -15,7 +15,7 @@ next-of-requires c =
 
 pub returns-in-Some : goal.returns-in-Some
 returns-in-Some c =
-    let a = advanced c.args.figures.now c.in-Some.release c.next-of.result (lent c.args.queue.now) (lent c.take.new.self) (lent c.put.new.self) c.args.queue.now.within c.in-Some.ensures.value c.in-Some.ensures.after c.next-of.ensures c.put.ensures.after in
+    let a = advanced c.args.figures.now c.in-Some.release c.next_of.result (lent c.args.queue.now) (lent c.take.new.self) (lent c.put.new.self) c.args.queue.now.within c.in-Some.ensures.value c.in-Some.ensures.after c.next_of.ensures c.put.ensures.after in
     record { room = a.0 ∙ c.requires.room; len = a.1; step = a.2 }
 
 pub returns-in-None : goal.returns-in-None

@@ -12,8 +12,8 @@ use Rattle.releases.specs.Releases.{Listed, FirstReleases}
 use Rattle.releases.proofs.Forecasts.{listed, Slight, slight_start, slight_step, Good, some_period, good_start, good_more, good_end}
 use Rattle.releases.proofs.first_releases.Goals as goal
 
-pub put-firsts-requires : goal.put-firsts-requires
-put-firsts-requires c =
+pub put_firsts-requires : goal.put_firsts-requires
+put_firsts-requires c =
     let s = subst Sound (sym c.figures-figures.ensures) (sound_plan c.args.plan.now) in
     record {
       listed = listed c.figures-figures.result.now s c.if-figures-eq0.false;
@@ -24,12 +24,12 @@ put-firsts-requires c =
 pub loop-k-init : goal.loop-k-init
 loop-k-init c =
     let f = c.figures-figures.result.now in
-    let e = c.put-firsts.ensures in (
+    let e = c.put_firsts.ensures in (
       refl,
       e.room,
       e.len,
-      slight_start f (held (lent c.put-firsts.new.queue)) e.firsts,
-      λ h. good_start f (some_period f h) (held (lent c.put-firsts.new.queue)) e.firsts,
+      slight_start f (held (lent c.put_firsts.new.queue)) e.firsts,
+      λ h. good_start f (some_period f h) (held (lent c.put_firsts.new.queue)) e.firsts,
     )
 
 pub advance-requires : goal.advance-requires

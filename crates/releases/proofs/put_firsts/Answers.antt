@@ -21,8 +21,8 @@ loop-rank-preserved c =
     let f = c.args.figures.now in
     let v = c.loop-rank.invariant in
     let n = c.loop-rank.rank in
-    let p = held_put c.first-of.result (lent c.loop-rank.queue) (lent c.put.new.self) (omega (arith, v.0, v.1, c.requires.listed.few)) c.put.ensures.after in
-    let e : inserted sooner (nth f n 0) (held (lent c.loop-rank.queue)) ≡ held (lent c.put.new.self) = ap (λ x. inserted sooner x (held (lent c.loop-rank.queue))) (sym c.first-of.ensures) ∙ sym p.0 in
+    let p = held_put c.first_of.result (lent c.loop-rank.queue) (lent c.put.new.self) (omega (arith, v.0, v.1, c.requires.listed.few)) c.put.ensures.after in
+    let e : inserted sooner (nth f n 0) (held (lent c.loop-rank.queue)) ≡ held (lent c.put.new.self) = ap (λ x. inserted sooner x (held (lent c.loop-rank.queue))) (sym c.first_of.ensures) ∙ sym p.0 in
     (p.2 ∙ v.0, omega (arith, p.1, v.1), subst (Firsts f (n + 1)) e (firsts_more f n (held (lent c.loop-rank.queue)) v.2))
 
 pub returns : goal.returns

@@ -1,4 +1,4 @@
-use Rattle.std.proofs.Common.{◌≡◌, true, false, length, sym, refl, ◌∙◌, arith, rules}
+use Rattle.std.proofs.Common.{◌≡◌, length, sym, ◌∙◌, rules}
 use Rattle.std.proofs.lemmas.Result.{err_from_is_err_and}
 use Rattle.std.proofs.lemmas.Bool.{cond-true, cond-false}
 use Rattle.fault.specs.Told.{answered, refused, refusal}
@@ -23,16 +23,16 @@ returns-then-not-whole c =
       exact = exact text k t;
     }
 
-pub returns-in-err-draft : goal.returns-in-err-draft
+pub returns-in_err-draft : goal.returns-in_err-draft
 unfolding check
-returns-in-err-draft c =
+returns-in_err-draft c =
     let text = c.args.text.now in
     let k = length c.args.kinds.now in
     let t = length c.args.tasks.now in
-    let f = refusal c.in-err-draft.field-0.0 in
-    let e : check text k t ≡ refused f = cond-true (is_whole text) _ _ (sym c.if-not-whole.ensures) ∙ c.in-err-draft.ensures.answer in
+    let f = refusal c.in_err-draft.field-0.0 in
+    let e : check text k t ≡ refused f = cond-true (is_whole text) _ _ (sym c.if-not-whole.ensures) ∙ c.in_err-draft.ensures.answer in
     let a = answer_refused (check text k t) f e in
-    let p = err_from_is_err_and c.from-residual.result c.from-residual.ensures.1 in
+    let p = err_from_is_err_and c.from_residual.result c.from_residual.ensures.1 in
     rw (p.1, p.2)
     (record {
       answer = a;
@@ -48,10 +48,10 @@ returns c =
     let text = c.args.text.now in
     let k = length c.args.kinds.now in
     let t = length c.args.tasks.now in
-    let d = c.in-ok-draft.draft in
-    let few = c.in-ok-draft.ensures.few in
+    let d = c.in_ok-draft.draft in
+    let few = c.in_ok-draft.ensures.few in
     let e : check text k t ≡ answered (rows_in d.table d.kinds d.tasks) =
-    cond-true (is_whole text) _ _ (sym c.if-not-whole.ensures) ∙ c.in-ok-draft.ensures.answer in
+    cond-true (is_whole text) _ _ (sym c.if-not-whole.ensures) ∙ c.in_ok-draft.ensures.answer in
     let a = answer_table (check text k t) d.table d.kinds d.tasks e (search rules) (search rules) in
     record {
       answer = a;

@@ -1,4 +1,4 @@
-use Rattle.std.proofs.Common.{◌≡◌, ◌*◌, ◌≤◌, get_or, ap, ◌∙◌, arith, rules}
+use Rattle.std.proofs.Common.{◌≡◌, ◌*◌, ◌≤◌, get_or, arith, rules}
 use Rattle.std.proofs.lemmas.List.Sums.{sum_by_more}
 use Rattle.std.proofs.lemmas.List.{take_all}
 use Rattle.admission.specs.Demand.{asked, up, part_of, no_task}
@@ -13,8 +13,8 @@ one c =
       births_small c.args.share c.args.stretch t (c.requires.few.1 c.loop-t.t-index c.loop-t-test.true) c.requires.small,
     )
 
-pub overflow-add-sum : goal.overflow-add-sum
-overflow-add-sum c = let o = one c in omega arith
+pub overflow_add-sum : goal.overflow_add-sum
+overflow_add-sum c = let o = one c in omega arith
 
 pub loop-t-preserved : goal.loop-t-preserved
 loop-t-preserved c =

@@ -1,25 +1,25 @@
-use Rattle.std.proofs.Common.{◌≡◌, ℕ, ◌+◌, ◌*◌, ◌<◌, ◌≤◌, List, get_or, sum_by, ap, ◌∙◌, arith, rules}
+use Rattle.std.proofs.Common.{◌≡◌, ℕ, ◌*◌, ◌<◌, ◌≤◌, List, get_or, ap, arith}
 use Rattle.admission.specs.declared.task.Task.{Task}
 use Rattle.std.proofs.lemmas.List.Sums.{sum_by_more}
-use Rattle.admission.specs.Demand.{asked, up, load, units_of, no_task, DoneIn, Never}
-use Rattle.admission.proofs.Rising.{units_small, same_product, none_more, all_asked, least_found, NoneBelow}
+use Rattle.admission.specs.Demand.{asked, units_of, no_task, DoneIn, Never}
+use Rattle.admission.proofs.Rising.{units_small, none_more, all_asked, least_found, NoneBelow}
 use Rattle.admission.proofs.Searching.{none_is, least_is}
 use Rattle.admission.proofs.bounds.settle.Goals as goal
 
 pub settle-init : goal.settle-init
 settle-init c =
-    let e = c.in-ok-r.ensures in
+    let e = c.in_ok-r.ensures in
     (e.0, λ k one lt done. let l = e.1 k done in omega arith)
 
-one : (c : goal.After-row-known·1) → (c.up.result * (get_or c.args.tasks.now c.loop-t.t-index no_task).units ≡ asked units_of c.settle.r (get_or c.args.tasks.now c.loop-t.t-index no_task)) × (asked units_of c.settle.r (get_or c.args.tasks.now c.loop-t.t-index no_task) ≤ 1000000000000)
+one : (c : goal.After-row_known-1) → (c.up.result * (get_or c.args.tasks.now c.loop-t.t-index no_task).units ≡ asked units_of c.settle.r (get_or c.args.tasks.now c.loop-t.t-index no_task)) × (asked units_of c.settle.r (get_or c.args.tasks.now c.loop-t.t-index no_task) ≤ 1000000000000)
 one c =
     let t = get_or c.args.tasks.now c.loop-t.t-index no_task in (
       ap (λ n. n * t.units) c.up.ensures.value,
       units_small c.settle.r t (c.requires.few.1 c.loop-t.t-index c.loop-t-test.true) (omega arith),
     )
 
-pub overflow-add-demand : goal.overflow-add-demand
-overflow-add-demand c = let o = one c in omega arith
+pub overflow_add-demand : goal.overflow_add-demand
+overflow_add-demand c = let o = one c in omega arith
 
 pub loop-t-preserved : goal.loop-t-preserved
 loop-t-preserved c =
@@ -42,10 +42,10 @@ returns-then-r-bound c =
     let n = none c.args.own c.args.bound c.settle.r c.args.tasks.now c.settle.invariant.1 (omega arith) in
     record { value = none_is c.args.own c.args.tasks.now c.args.bound n; law = n }
 
-pub returns-in-err-r : goal.returns-in-err-r
-returns-in-err-r c =
-    let n : Never (DoneIn c.args.own c.args.tasks.now) c.args.bound = λ k one le done. c.in-err-r.ensures k done in
-    rw c.from-residual.ensures (record { value = none_is c.args.own c.args.tasks.now c.args.bound n; law = n })
+pub returns-in_err-r : goal.returns-in_err-r
+returns-in_err-r c =
+    let n : Never (DoneIn c.args.own c.args.tasks.now) c.args.bound = λ k one le done. c.in_err-r.ensures k done in
+    rw c.from_residual.ensures (record { value = none_is c.args.own c.args.tasks.now c.args.bound n; law = n })
 
 pub returns : goal.returns
 returns c =

@@ -1,4 +1,4 @@
-use Rattle.std.proofs.Common.{◌≡◌, ◌*◌, ◌≤◌, get_or, ap, ◌∙◌, arith, rules}
+use Rattle.std.proofs.Common.{◌≡◌, ◌*◌, ◌≤◌, get_or, ap, arith, rules}
 use Rattle.std.proofs.lemmas.List.Sums.{sum_by_more}
 use Rattle.std.proofs.lemmas.List.{take_all}
 use Rattle.admission.specs.Demand.{part_of, no_task}
@@ -10,8 +10,8 @@ one c =
     let t = get_or c.args.tasks.now c.loop-t.t-index no_task in
     (ap (λ n. t.life * n) c.of.ensures, lives_small c.args.share t (c.requires.few.1 c.loop-t.t-index c.loop-t-test.true))
 
-pub overflow-add-sum : goal.overflow-add-sum
-overflow-add-sum c = let o = one c in omega arith
+pub overflow_add-sum : goal.overflow_add-sum
+overflow_add-sum c = let o = one c in omega arith
 
 pub loop-t-preserved : goal.loop-t-preserved
 loop-t-preserved c =

@@ -1,6 +1,5 @@
-use Rattle.std.proofs.Common.{refl, ◌∙◌, arith, rules}
+use Rattle.std.proofs.Common.{rules}
 use Rattle.std.proofs.lemmas.List.{take_all, length-set}
-use Rattle.admission.specs.Admission.{no_kind}
 use Rattle.admission.proofs.Padding.{copy_next}
 use Rattle.admission.proofs.work.all_kinds.Goals as goal
 

@@ -8,8 +8,8 @@ bounds-self-self c =
     let r = room c.args.self.now.seen c.args.number (omega arith) c.if-not-self-number.true in
     omega (arith, c.requires.tidy.count)
 
-pub overflow-add-self : goal.overflow-add-self
-overflow-add-self c =
+pub overflow_add-self : goal.overflow_add-self
+overflow_add-self c =
     let n : length c.args.self.now.seen ≡ 257 = search rules in
     let r = room c.args.self.now.seen c.args.number (omega arith) c.if-not-self-number.true in
     omega (arith, c.requires.tidy.count)

@@ -2,13 +2,13 @@ use Rattle.std.proofs.Common.{refl, arith}
 use Rattle.census.proofs.Searches.{same_grown, grown_on, few, next_reached, closed_more}
 use Rattle.census.proofs.Finds.trace.Goals as goal
 
-pub overflow-cast-object : goal.overflow-cast-object
-overflow-cast-object g c =
+pub overflow_cast-object : goal.overflow_cast-object
+overflow_cast-object g c =
     let u = few c.args.heap.now (g.R.Readable.words c.args.memory.now) c.loop-next.self c.loop-next.invariant.0 c.loop-next.invariant.1 in
     omega arith
 
-pub offset-bounds-self-next : goal.offset-bounds-self-next
-offset-bounds-self-next g c =
+pub offset_bounds-self-next : goal.offset_bounds-self-next
+offset_bounds-self-next g c =
     let u = few c.args.heap.now (g.R.Readable.words c.args.memory.now) c.loop-next.self c.loop-next.invariant.0 c.loop-next.invariant.1 in
     omega arith
 
@@ -42,7 +42,7 @@ loop-next-preserved g c =
     let q = c.follow.new.self in
     let n = c.loop-next.next in
     let v = c.loop-next.invariant in
-    let e = c.in-ok-follow.ensures in
+    let e = c.in_ok-follow.ensures in
     let u = few h m f v.0 v.1 in (
       e.0,
       e.1,

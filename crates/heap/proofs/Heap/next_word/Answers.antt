@@ -2,13 +2,13 @@ use Rattle.std.proofs.Common.{rules}
 use Rattle.heap.specs.Steps.{on_next}
 use Rattle.heap.proofs.Heap.next_word.Goals as goal
 
-pub returns-in-err-word : goal.returns-in-err-word
+pub returns-in_err-word : goal.returns-in_err-word
 unfolding on_next
-returns-in-err-word g c = search rules
+returns-in_err-word g c = search rules
 
-pub returns-in-err-named : goal.returns-in-err-named
+pub returns-in_err-named : goal.returns-in_err-named
 unfolding on_next
-returns-in-err-named g c = search rules
+returns-in_err-named g c = search rules
 
 pub returns : goal.returns
 unfolding on_next

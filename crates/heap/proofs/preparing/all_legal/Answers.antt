@@ -2,8 +2,8 @@ use Rattle.std.proofs.Common.{rules}
 use Rattle.heap.proofs.Begins.{fit_more, fit_all}
 use Rattle.heap.proofs.preparing.all_legal.Goals as goal
 
-pub returns-then-not-is-legal : goal.returns-then-not-is-legal
-returns-then-not-is-legal c = search (rules, fit_more)
+pub returns-then-not-is_legal : goal.returns-then-not-is_legal
+returns-then-not-is_legal c = search (rules, fit_more)
 
 pub loop-i-preserved : goal.loop-i-preserved
 loop-i-preserved c = search (rules, fit_more)

@@ -7,7 +7,7 @@ use Rattle.heap.proofs.preparing.chain_spares.Goals as goal
 
 pub loop-i-preserved : goal.loop-i-preserved
 loop-i-preserved c =
-    let f : c.spare-handle.result ≡ spare_row c.args.last c.loop-i.i = c.spare-handle.ensures in
+    let f : c.spare_handle.result ≡ spare_row c.args.last c.loop-i.i = c.spare_handle.ensures in
     rw f (fill_by_more (spare_row c.args.last) c.loop-i.handles c.loop-i.i blank (search rules) c.loop-i.invariant)
 
 pub returns : goal.returns

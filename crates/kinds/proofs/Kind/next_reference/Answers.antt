@@ -1,6 +1,5 @@
-use Rattle.std.proofs.Common.{◌+◌, ◌/◌, ◌^◌, ◌<◌, refl, arith}
-use lib.Count.{count_trailing_zeros}
-use Rattle.kinds.proofs.Bits.{no_high_bit, gap, lowest}
+use Rattle.std.proofs.Common.{arith}
+use Rattle.kinds.proofs.Bits.{gap, lowest}
 use Rattle.kinds.proofs.Kind.next_reference.Goals as goal
 
 pub returns-then-skipped-from : goal.returns-then-skipped-from

@@ -2,8 +2,8 @@ use Rattle.std.proofs.Common.{arith}
 use Rattle.table.proofs.Decimal.{length_few, length_more, length_one}
 use Rattle.table.proofs.consumers.digits.Goals as goal
 
-pub overflow-add-count : goal.overflow-add-count
-overflow-add-count c = let f = length_few c.args.n c.loop-rest.invariant.2 in omega arith
+pub overflow_add-count : goal.overflow_add-count
+overflow_add-count c = let f = length_few c.args.n c.loop-rest.invariant.2 in omega arith
 
 pub loop-rest-preserved : goal.loop-rest-preserved
 loop-rest-preserved c = let m = length_more c.loop-rest.rest (omega arith) c.loop-rest.invariant.1 in omega arith

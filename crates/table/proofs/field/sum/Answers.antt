@@ -1,13 +1,13 @@
-use Rattle.std.proofs.Common.{◌≡◌, true, false, cond, length, get_or, drop, sym, refl, ap, ◌∙◌, arith, rules}
+use Rattle.std.proofs.Common.{◌≡◌, true, false, get_or, drop, sym, ◌∙◌}
 use Rattle.std.specs.Str.{all_ascii_digits}
 use Rattle.std.proofs.lemmas.List.{at_drop_all}
 use Rattle.table.specs.Checking.{digits_value}
 use Rattle.table.proofs.Lexed.{digit_class, digits_more, all_more, all_not, small_more}
 use Rattle.table.proofs.field.sum.Goals as goal
 
-pub returns-in-default : goal.returns-in-default
-returns-in-default c =
-    let e = all_not c.args.digits.now c.loop-i.i c.loop-i-test.true (λ d q. c.in-default.not-Digit d (c.classify.ensures ∙ q)) in
+pub returns-in_default : goal.returns-in_default
+returns-in_default c =
+    let e = all_not c.args.digits.now c.loop-i.i c.loop-i-test.true (λ d q. c.in_default.not-Digit d (c.classify.ensures ∙ q)) in
     let f : all_ascii_digits c.args.digits.now ≡ false = sym c.loop-i.invariant.1 ∙ e in
     rw f
 

@@ -1,4 +1,4 @@
-use Rattle.std.proofs.Common.{◌≡◌, ◌++◌, ap, ◌∙◌, arith}
+use Rattle.std.proofs.Common.{◌++◌, ap, ◌∙◌, arith}
 use Rattle.table_writer.specs.Pages.{page_text}
 use Rattle.table_writer.proofs.Pens.{joined_step, joined_all}
 use Rattle.table_writer.proofs.lines.put_rows.Goals as goal

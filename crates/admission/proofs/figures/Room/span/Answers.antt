@@ -1,4 +1,4 @@
-use Rattle.std.proofs.Common.{◌≡◌, ℕ, ◌≤◌, sym, refl, ap, ◌∙◌, arith}
+use Rattle.std.proofs.Common.{arith}
 use Rattle.admission.specs.Admission.{steps_of}
 use Rattle.admission.specs.Demand.{Never, DoneIn}
 use Rattle.admission.proofs.Searching.{none_is}

@@ -1,5 +1,4 @@
-use Rattle.std.proofs.Common.{◌≡◌, sym, ap, ◌∙◌, rules}
-use Rattle.std.proofs.lemmas.Bool.{cond-true, cond-false}
+use Rattle.std.proofs.Common.{rules}
 use Rattle.table.specs.Checking.{one_line}
 use Rattle.table.proofs.reader.Reader.line.Goals as goal
 

@@ -1,12 +1,12 @@
-use Rattle.std.proofs.Common.{◌≡◌, get_or, sym, refl, ap, ◌∙◌, arith, rules}
+use Rattle.std.proofs.Common.{get_or, sym, ◌∙◌, arith, rules}
 use Rattle.table.specs.Places.{spot}
 use Rattle.table.proofs.Lexed.{end_class, not_end}
 use Rattle.table.proofs.Steps.{some_byte, end_missing, end_there}
 use Rattle.table.proofs.reader.Reader.line_end.Goals as goal
 
-pub returns-in-default : goal.returns-in-default
-returns-in-default c =
-    let n = not_end (get_or c.args.self.now.rest.now 0 0) (λ e. c.in-default.not-LineEnd (c.ahead.ensures ∙ e)) in
+pub returns-in_default : goal.returns-in_default
+returns-in_default c =
+    let n = not_end (get_or c.args.self.now.rest.now 0 0) (λ e. c.in_default.not-LineEnd (c.ahead.ensures ∙ e)) in
     end_missing (spot c.args.self.now) _ n c.refuse.ensures
 
 pub pass-requires : goal.pass-requires

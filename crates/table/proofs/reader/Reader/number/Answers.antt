@@ -1,13 +1,13 @@
-use Rattle.std.proofs.Common.{◌≡◌, length, get_or, sym, refl, ap, ◌∙◌, arith, rules}
+use Rattle.std.proofs.Common.{length, get_or, sym, ap, ◌∙◌, arith, rules}
 use Rattle.fault.specs.Told.{told}
 use Rattle.table.specs.Places.{spot}
 use Rattle.table.proofs.Lexed.{comma_class, not_comma}
 use Rattle.table.proofs.Steps.{some_byte, front_fits, past_front, number_missing, number_there}
 use Rattle.table.proofs.reader.Reader.number.Goals as goal
 
-pub returns-in-default : goal.returns-in-default
-returns-in-default c =
-    let n = not_comma (get_or c.args.self.now.rest.now 0 0) (λ e. c.in-default.not-Comma (c.ahead.ensures ∙ e)) in
+pub returns-in_default : goal.returns-in_default
+returns-in_default c =
+    let n = not_comma (get_or c.args.self.now.rest.now 0 0) (λ e. c.in_default.not-Comma (c.ahead.ensures ∙ e)) in
     number_missing c.args.low c.args.high (spot c.args.self.now) _ n c.refuse.ensures
 
 pub pass-requires : goal.pass-requires

@@ -1,22 +1,22 @@
-use Rattle.std.proofs.Common.{◌≡◌, ◌+◌, ◌-◌, ◌≤◌, min, true, false, length, take, set, sym, refl, ap, ◌∙◌, arith, rules}
+use Rattle.std.proofs.Common.{◌≡◌, ◌+◌, ◌-◌, min, true, false, length, take, sym, ap, ◌∙◌, arith}
 use Rattle.std.proofs.lemmas.List.{take_more_set}
 use Rattle.std.proofs.lemmas.Result.{err_from_is_err_and}
 use Rattle.std.proofs.lemmas.Bool.{cond-true, cond-false}
-use Rattle.fault.specs.Told.{answered, refused, refusal}
+use Rattle.fault.specs.Told.{answered, refusal}
 use Rattle.table.specs.Checking.{leads, past_word, more_lines}
 use Rattle.table.specs.Places.{spot}
 use Rattle.table.proofs.Lined.{following, lines_turn, lines_fail, lines_full, lines_other}
 use Rattle.table.proofs.reader.Reader.rows.Goals as goal
 
-pub returns-in-err-rows : goal.returns-in-err-rows
-returns-in-err-rows g c =
+pub returns-in_err-rows : goal.returns-in_err-rows
+returns-in_err-rows g c =
     let w = c.args.word.now in
     let s = spot c.loop-n.self in
     let room = min (length c.args.rows.now) c.args.room in
     let l : leads w s ≡ true = sym c.takes.ensures.answer ∙ c.if-takes.true in
     let p : spot c.takes.new.self ≡ past_word w s = c.takes.ensures.place ∙ cond-true c.takes.result (past_word w s) s c.if-takes.true in
-    let q = err_from_is_err_and c.from-residual.result c.from-residual.ensures.1 in
-    let e = lines_fail w g.R.Row.reads (room - c.loop-n.n) s (refusal c.in-err-rows.field-0.0) (take c.loop-n.n c.loop-n.rows) (omega arith) l (ap g.R.Row.reads (sym p) ∙ c.in-err-rows.ensures) in
+    let q = err_from_is_err_and c.from_residual.result c.from_residual.ensures.1 in
+    let e = lines_fail w g.R.Row.reads (room - c.loop-n.n) s (refusal c.in_err-rows.field-0.0) (take c.loop-n.n c.loop-n.rows) (omega arith) l (ap g.R.Row.reads (sym p) ∙ c.in_err-rows.ensures) in
     rw (q.1, q.2) (record { answer = c.loop-n.invariant.0 ∙ e; few = tt })
 
 pub loop-n-preserved : goal.loop-n-preserved
@@ -27,8 +27,8 @@ loop-n-preserved g c =
     let room = min (length c.args.rows.now) c.args.room in
     let l : leads w s ≡ true = sym c.takes.ensures.answer ∙ c.if-takes.true in
     let p : spot c.takes.new.self ≡ past_word w s = c.takes.ensures.place ∙ cond-true c.takes.result (past_word w s) s c.if-takes.true in
-    let t = lines_turn w g.R.Row.reads (room - (n + 1)) (room - n) s (spot c.read.new.reader) c.in-ok-rows.field-0 (take n c.loop-n.rows) (omega arith) l (ap g.R.Row.reads (sym p) ∙ c.in-ok-rows.ensures) in
-    let m = take_more_set c.loop-n.rows n c.in-ok-rows.field-0 (omega arith) in
+    let t = lines_turn w g.R.Row.reads (room - (n + 1)) (room - n) s (spot c.read.new.reader) c.in_ok-rows.field-0 (take n c.loop-n.rows) (omega arith) l (ap g.R.Row.reads (sym p) ∙ c.in_ok-rows.ensures) in
+    let m = take_more_set c.loop-n.rows n c.in_ok-rows.field-0 (omega arith) in
     (c.loop-n.invariant.0 ∙ t ∙ ap (λ x. following x (more_lines w g.R.Row.reads (room - (n + 1)) (spot c.read.new.reader))) (sym m), omega arith)
 
 pub returns-else-takes : goal.returns-else-takes

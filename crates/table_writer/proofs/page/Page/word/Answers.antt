@@ -1,5 +1,4 @@
-use Rattle.std.proofs.Common.{◌≡◌, sym, refl, arith, rules}
-use Rattle.std.proofs.lemmas.List.{append-nil}
+use Rattle.std.proofs.Common.{arith}
 use Rattle.table_writer.specs.Pages.{page_text}
 use Rattle.table_writer.proofs.Pens.{push_more, push_all}
 use Rattle.table_writer.proofs.page.Page.word.Goals as goal

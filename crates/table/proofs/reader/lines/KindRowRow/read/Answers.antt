@@ -1,5 +1,5 @@
 use Rattle.table.proofs.Sound.{number_sound}
 use Rattle.table.proofs.reader.lines.KindRowRow.read.Goals as goal
 
-pub largest-map-requires : goal.largest-map-requires
-largest-map-requires c = (number_sound 1 32 _ _ _ c.in-ok-size.ensures).1.1
+pub largest_map-requires : goal.largest_map-requires
+largest_map-requires c = (number_sound 1 32 _ _ _ c.in_ok-size.ensures).1.1

@@ -1,5 +1,5 @@
 -- The tables worked out by hand.
-use Rattle.std.proofs.Common.{◌≡◌, ℕ, zero, suc, ◌+◌, ◌<◌, ◌≤◌, true, false, List, [], ◌∷◌, Some, None, sym, refl, ap, ◌∙◌, subst, arith}
+use Rattle.std.proofs.Common.{◌≡◌, ℕ, zero, suc, ◌+◌, ◌<◌, ◌≤◌, true, false, List, [], ◌∷◌, Some, None, Ok, sym, refl, ap, ◌∙◌, subst, arith}
 use Rattle.std.specs.Fmt.{digits}
 use Rattle.fault.specs.Told.{answered, refused, nowhere}
 use Rattle.fault.specs.Told.{admission as in_admission}
@@ -12,7 +12,7 @@ use Rattle.admission.specs.declared.task.Task as plans_task
 use Rattle.admission.specs.declared.figures.Figures.{Figures}
 use Rattle.admission.specs.Ranks.{ranked}
 use Rattle.admission.specs.Search.{least}
-use Rattle.admission.specs.Admission.{admission, misses_deadline, room_for, figures_of, padded}
+use Rattle.admission.specs.Admission.{admission, misses_deadline, room_for, figures_of, padded, done_in, responses}
 use Rattle.admission.proofs.Rounding.{up_covers}
 use Rattle.admission.proofs.Searching.{none_is}
 use Rattle.admission.proofs.Verdicts.{says_7, says_8_flip, says_9, says_10}
@@ -21,7 +21,7 @@ use Rattle.queue.specs.declared.entries.Source.TheVariants.{Task, Collector}
 use Rattle.releases.specs.Releases.{period_at, FirstReleases, Firsts, nth}
 use Rattle.releases.proofs.Forecasts.{Good, good_start, good_step, good_end}
 use Rattle.worked_examples.specs.Tables.{Plans, Tables, table, text, release, releases}
-use Rattle.worked_examples.proofs.Worked.{limits, refuses, admits, plans}
+use Rattle.worked_examples.proofs.Worked.{found, limits, refuses, admits, plans}
 
 -- the tasks in rank order
 abbrev tasks : ℕ → ℕ → List plans_task.Task
@@ -34,31 +34,62 @@ ranks : (s n c d : ℕ) → ranked (table s n c d).tasks ≡ tasks c d
 unfolding ranked
 ranks s n c d = refl
 
-plan : Plans (table 64 40 5 20) 374 26 120 180
+times : responses [] (tasks 5 20) ≡ Ok (5 ∷ 25 ∷ [])
 unfolding least
-plan = plans (table 64 40 5 20) (tasks 5 20) (ranks 64 40 5 20) (5 ∷ 25 ∷ []) 26 180 374 (limits 64 40 5 20 (omega arith) (omega arith) (omega arith) (omega arith) (omega arith) (omega arith) (omega arith) (omega arith)) refl refl refl refl refl (omega arith) (omega arith) refl refl
+times = refl
+
+-- how late a flip can be, and the stretches that hold collections of so many steps
+
+flip : Some 26 ≡ least (done_in 1 (tasks 5 20)) 26
+unfolding least
+flip = refl
+
+late : Some 26 ≡ least (done_in 1 (tasks 5 20)) 1000000
+late = found (done_in 1 (tasks 5 20)) 26 (omega arith) flip
+
+whole : (k q : ℕ) → q ≤ 1000000 → Some q ≡ least (done_in k (tasks 5 20)) q → Some q ≡ least (done_in k (tasks 5 20)) 1000000
+whole k q h e = found (done_in k (tasks 5 20)) q h e
+
+steps_120 : Some 180 ≡ least (done_in 120 (tasks 5 20)) 180
+unfolding least
+steps_120 = refl
+
+plan : Plans (table 64 40 5 20) 374 26 120 180
+plan = plans (table 64 40 5 20) (tasks 5 20) (ranks 64 40 5 20) (5 ∷ 25 ∷ []) 26 180 374 (limits 64 40 5 20 (omega arith) (omega arith) (omega arith) (omega arith) (omega arith) (omega arith) (omega arith) (omega arith)) times late (whole 120 180 (omega arith) steps_120) refl refl (omega arith) (omega arith) refl refl
+
+steps_101 : Some 161 ≡ least (done_in 101 (tasks 5 20)) 161
+unfolding least
+steps_101 = refl
 
 handles_21 : Plans (table 64 21 5 20) 174 26 101 161
+handles_21 = plans (table 64 21 5 20) (tasks 5 20) (ranks 64 21 5 20) (5 ∷ 25 ∷ []) 26 161 174 (limits 64 21 5 20 (omega arith) (omega arith) (omega arith) (omega arith) (omega arith) (omega arith) (omega arith) (omega arith)) times late (whole 101 161 (omega arith) steps_101) refl refl (omega arith) (omega arith) refl refl
+
+steps_82 : Some 137 ≡ least (done_in 82 (tasks 5 20)) 137
 unfolding least
-handles_21 = plans (table 64 21 5 20) (tasks 5 20) (ranks 64 21 5 20) (5 ∷ 25 ∷ []) 26 161 174 (limits 64 21 5 20 (omega arith) (omega arith) (omega arith) (omega arith) (omega arith) (omega arith) (omega arith) (omega arith)) refl refl refl refl refl (omega arith) (omega arith) refl refl
+steps_82 = refl
 
 words_26 : Plans (table 26 40 5 20) 174 26 82 137
+words_26 = plans (table 26 40 5 20) (tasks 5 20) (ranks 26 40 5 20) (5 ∷ 25 ∷ []) 26 137 174 (limits 26 40 5 20 (omega arith) (omega arith) (omega arith) (omega arith) (omega arith) (omega arith) (omega arith) (omega arith)) times late (whole 82 137 (omega arith) steps_82) refl refl (omega arith) (omega arith) refl refl
+
+steps_100 : Some 160 ≡ least (done_in 100 (tasks 5 20)) 160
 unfolding least
-words_26 = plans (table 26 40 5 20) (tasks 5 20) (ranks 26 40 5 20) (5 ∷ 25 ∷ []) 26 137 174 (limits 26 40 5 20 (omega arith) (omega arith) (omega arith) (omega arith) (omega arith) (omega arith) (omega arith) (omega arith)) refl refl refl refl refl (omega arith) (omega arith) refl refl
+steps_100 = refl
 
 handles_20 : admission (table 64 20 5 20) ≡ refused (nowhere 10 in_admission)
-unfolding least
 handles_20 =
     let t = table 64 20 5 20 in
     refuses t (tasks 5 20) (ranks 64 20 5 20) (refused (nowhere 10 in_admission))
-    (says_10 t.heap t.statics 1 (tasks 5 20) (5 ∷ 25 ∷ []) 26 (room_for t.heap t.statics (tasks 5 20) 26) refl refl refl 160 refl refl refl)
+    (says_10 t.heap t.statics 1 (tasks 5 20) (5 ∷ 25 ∷ []) 26 (room_for t.heap t.statics (tasks 5 20) 26) times late refl 160 (whole 100 160 (omega arith) steps_100) refl refl)
+
+steps_81 : Some 136 ≡ least (done_in 81 (tasks 5 20)) 136
+unfolding least
+steps_81 = refl
 
 words_25 : admission (table 25 40 5 20) ≡ refused (nowhere 9 in_admission)
-unfolding least
 words_25 =
     let t = table 25 40 5 20 in
     refuses t (tasks 5 20) (ranks 25 40 5 20) (refused (nowhere 9 in_admission))
-    (says_9 t.heap t.statics 1 (tasks 5 20) (5 ∷ 25 ∷ []) 26 (room_for t.heap t.statics (tasks 5 20) 26) refl refl refl 136 refl refl)
+    (says_9 t.heap t.statics 1 (tasks 5 20) (5 ∷ 25 ∷ []) 26 (room_for t.heap t.statics (tasks 5 20) 26) times late refl 136 (whole 81 136 (omega arith) steps_81) refl)
 
 units_41 : admission (table 64 40 30 41) ≡ refused (misses_deadline 5)
 unfolding least
@@ -143,9 +174,8 @@ s8 : Good plan_figures some (release 0 0 (Task 1) ∷ release 0 1 (Task 2) ∷ r
 s8 = good_step plan_figures some (release 0 0 (Task 1) ∷ release 0 1 (Task 2) ∷ release 0 2 Collector ∷ release 50 0 (Task 1) ∷ release 100 0 (Task 1) ∷ release 100 1 (Task 2) ∷ release 150 0 (Task 1) ∷ []) (release 200 1 (Task 2) ∷ release 374 2 Collector ∷ []) (release 200 0 (Task 1)) s7
 
 pub first : (f : Figures) → admission (table 64 40 5 20) ≡ answered f → FirstReleases f 8 releases
-unfolding least
 first f e =
-    let plan_is : admission (table 64 40 5 20) ≡ answered plan_figures = admits (table 64 40 5 20) (tasks 5 20) (ranks 64 40 5 20) (5 ∷ 25 ∷ []) 26 180 374 (limits 64 40 5 20 (omega arith) (omega arith) (omega arith) (omega arith) (omega arith) (omega arith) (omega arith) (omega arith)) refl refl refl refl refl (omega arith) (omega arith) refl refl in
+    let plan_is : admission (table 64 40 5 20) ≡ answered plan_figures = admits (table 64 40 5 20) (tasks 5 20) (ranks 64 40 5 20) (5 ∷ 25 ∷ []) 26 180 374 (limits 64 40 5 20 (omega arith) (omega arith) (omega arith) (omega arith) (omega arith) (omega arith) (omega arith) (omega arith)) times late (whole 120 180 (omega arith) steps_120) refl refl (omega arith) (omega arith) refl refl in
     let same : plan_figures ≡ f = answer_same plan_figures f (sym plan_is ∙ e) in
     subst (λ g. FirstReleases g 8 releases) same (good_end plan_figures some 8 releases _ refl s8)
 

@@ -1,5 +1,5 @@
 -- Plans of tables, from what their searches find.
-use Rattle.std.proofs.Common.{◌≡◌, ℕ, ◌+◌, ◌<◌, ◌≤◌, true, false, List, [], ◌∷◌, length, Some, None, Ok, Err, sym, refl, ap, ◌∙◌, subst, inl, inr, arith}
+use Rattle.std.proofs.Common.{◌≡◌, ℕ, zero, suc, ◌+◌, ◌<◌, ◌≤◌, Bool, true, false, cond, List, [], ◌∷◌, length, Some, None, Ok, Err, sym, refl, ap, ◌∙◌, subst, inl, inr, arith}
 use Rattle.std.proofs.lemmas.Bool.{both_ways}
 use Rattle.fault.specs.Told.{Told, answered, refused, nowhere}
 use Rattle.fault.specs.Told.{admission as in_admission}
@@ -8,7 +8,7 @@ use Rattle.table.specs.Limits.{Limits}
 use Rattle.admission.specs.declared.task.Task.{Task}
 use Rattle.admission.specs.declared.figures.Bounds.{Bounds}
 use Rattle.admission.specs.Ranks.{ranked}
-use Rattle.admission.specs.Search.{least, largest}
+use Rattle.admission.specs.Search.{first_from, least, largest}
 use Rattle.admission.specs.Admission.{admission, weighed, figured, figures_of, responses, done_in, room_for, steps_of, words_fit, handles_fit, fits, padded}
 use Rattle.admission.proofs.Plans.{weighed_part}
 use Rattle.admission.proofs.Ranking.{few_ranked}
@@ -17,6 +17,21 @@ use Rattle.admission.proofs.Rows.{tabled}
 use Rattle.admission.proofs.Searching.{largest_is, fits_fall}
 use Rattle.admission.proofs.Verdicts.{says_7, says_8_flip, says_9, says_10, says_plan}
 use Rattle.worked_examples.specs.Tables.{Plans, table}
+
+-- what is found among fewer numbers is found among more
+found_more : (test : ℕ → Bool) (m n k q : ℕ) → m ≤ n → Some q ≡ first_from test m k → Some q ≡ first_from test n k
+found_more test zero n k q h e = cc
+found_more test (suc m) zero k q h e = absurd (omega arith)
+found_more test (suc m) (suc n) k q h e =
+    elim (test k) as (λ b. Some q ≡ cond b (Some k) (first_from test m (k + 1)) → Some q ≡ cond b (Some k) (first_from test n (k + 1))) [
+      | true ↦ λ s. s
+      | false ↦ λ s. found_more test m n (k + 1) q (omega arith) s
+    ] e
+
+-- so a search that would go far is done within few steps
+pub found : (test : ℕ → Bool) (q : ℕ) → q ≤ 1000000 → Some q ≡ least test q → Some q ≡ least test 1000000
+unfolding least
+found test q h e = found_more test q 1000000 1 q h e
 
 -- a table of two tasks keeps the limits
 pub limits : (s n c d : ℕ) → 1 ≤ s → s ≤ 8192 → 1 ≤ n → n ≤ 256 → 1 ≤ c → c ≤ 50 → 1 ≤ d → d ≤ 100 → Limits (table s n c d)

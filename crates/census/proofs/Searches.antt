@@ -1,5 +1,5 @@
 -- What one more number adds to the search behind the census.
-use Rattle.std.proofs.Common.{◌≡◌, ℕ, zero, suc, ◌+◌, ◌*◌, ◌<◌, ◌≤◌, Bool, true, false, cond, not, ◌&&◌, ◌||◌, eqb, ltb, ◌≢◌, ◌⊎◌, List, [], ◌∷◌, ◌++◌, length, get_or, take, set, replicate, sum_by, count_by, sym, refl, ap, ◌∙◌, subst, inl, inr, arith}
+use Rattle.std.proofs.Common.{◌≡◌, ℕ, zero, suc, ◌+◌, ◌<◌, ◌≤◌, Bool, true, false, cond, not, ◌||◌, eqb, ltb, ◌≢◌, List, [], ◌∷◌, ◌++◌, length, get_or, take, set, replicate, sum_by, count_by, sym, refl, ap, ◌∙◌, subst, inl, inr, arith}
 use Rattle.std.proofs.lemmas.List.{get_or-set_same, get_or-set_other, length-set, get_or_past, get_or-replicate, length-replicate, take_more, take_more_set, take-set-le, length-take-le, get_or-take}
 use Rattle.std.proofs.lemmas.List.Sums.{sum_by-set, sum_by_push, count_by-le-length}
 use Rattle.std.proofs.lemmas.Bool.{cases_eq, cases_lt, cases_Bool, cond_both, ne_eqb, eq-eqb, eqb-true, eqb-false, both_ways, or_parts, or_cases, and_parts, and_right, cond-true, cond-false}
@@ -14,7 +14,7 @@ use Rattle.heap.specs.Room.{in_use}
 use Rattle.census.specs.declared.Finds.{Finds}
 use Rattle.census.specs.declared.Count.{Count}
 use Rattle.census.specs.Counts.{Reachable, Counted, Astray}
-use Rattle.census.specs.Finds.{named, is_seen, found, nothing, noted, Tidy, Sound, Grown, Roomy, Rooted, FollowedTo, Followed, Closed}
+use Rattle.census.specs.Finds.{named, is_seen, found, nothing, noted, Sound, Grown, Roomy, Rooted, FollowedTo, Followed, Closed}
 
 -- one more is seen
 pub seen_more : (xs : List Bool) (i : ℕ) → i < length xs → get_or xs i false ≡ false → count_by (λ b. b) (set xs i true) ≡ count_by (λ b. b) xs + 1

@@ -1,4 +1,4 @@
-// The entry for the drawing side, which is written in C.
+// The entry for the drawing side, which is written in C: the answer. `drawing_side_c` exports it.
 #![tactic(auto)]
 
 ghost use Rattle.std.specs.Prelude.{◌≡◌};
@@ -9,8 +9,7 @@ use admission::{Plan, admit};
 use table::rows::{MAX_KINDS, MAX_TASKS, NO_KIND, NO_TASK};
 
 // The collector's period for a table text, or minus the number of the refusal.
-#[unsafe(no_mangle)]
-pub extern "C" fn gudokpi_period(text: &[u8]) -> i32
+pub fn gudokpi_period(text: &[u8]) -> i32
     ensures { result ≡ answer (admitted text.now 32 16) }
 {
     let mut kinds = [NO_KIND; MAX_KINDS];

@@ -1,11 +1,10 @@
 -- Taking the next release and putting the one after it: what is listed, and what waits.
-use Rattle.std.proofs.Common.{◌≡◌, ℕ, zero, suc, ◌+◌, ◌-◌, ◌*◌, ◌<◌, ◌≤◌, Bool, true, false, cond, eqb, ltb, leb, ◌⊎◌, List, [], ◌∷◌, ◌++◌, length, get_or, Some, None, sym, refl, ap, ◌∙◌, subst, inl, inr, mul-le-mul_right, add-mul, one-mul, zero-mul, arith}
+use Rattle.std.proofs.Common.{◌≡◌, ℕ, zero, suc, ◌+◌, ◌-◌, ◌*◌, ◌<◌, ◌≤◌, true, false, eqb, ltb, ◌⊎◌, List, [], ◌∷◌, ◌++◌, length, get_or, Some, sym, refl, ap, ◌∙◌, subst, inl, inr, mul-le-mul_right, add-mul, one-mul, zero-mul, arith}
 use Rattle.std.specs.List.{ContainsAt as Has, AllByRecursion as All}
-use Rattle.std.proofs.ByRecursion.{All-weaker, All-push, all-has, All-get_or, has_append_left, has_push, All-append, has_shuffled}
-use Rattle.std.proofs.lemmas.Bool.{cases_Bool, cases_eq, cases_lt, both_ways, cond-true, cond-false, eq-eqb, ne_eqb, lt-ltb, ltb-true, ltb-false, le-ltb}
+use Rattle.std.proofs.ByRecursion.{All-weaker, All-push, all-has, All-get_or, has_append_left, has_push, has_shuffled}
+use Rattle.std.proofs.lemmas.Bool.{cases_Bool, cases_eq, cases_lt, both_ways, cond-true, cond-false, eq-eqb, ne_eqb, lt-ltb, le-ltb}
 use Rattle.queue.specs.declared.entries.Release.{Release}
 use Rattle.queue.specs.declared.entries.Source.{Source}
-use Rattle.queue.specs.declared.entries.Source.TheVariants.{Task, Collector}
 use Rattle.queue.specs.Entries.{by, sooner, source_upto}
 use Rattle.queue.specs.Orders.{inserted}
 use Rattle.queue.specs.Lexical.{by_total, by_transitive, by_ties, source_total, source_transitive, source_antisymmetric, same_release}

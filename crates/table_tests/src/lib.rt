@@ -277,47 +277,38 @@ mod tests {
     }
 
     // A text is refused so, and the lists stay as they were.
-    fn refused(
-        rt: &impl Abort,
-        text: &[u8],
-        number: u8,
-        line: usize,
-        column: u32,
-    ) -> Result<(), Fail> {
+    fn refused(text: &[u8], number: u8, line: usize, column: u32) -> bool {
         let mut kinds = [STRAY_KIND; MAX_KINDS];
         let mut tasks = [STRAY_TASK; MAX_TASKS];
         match table::read(text, &mut kinds, &mut tasks) {
-            Ok(_) => Err(Fail::new("accepted")),
-            Err(fault) => {
-                assert!(rt; tells(fault, number, line, column));
-                assert!(rt; kinds[0] == STRAY_KIND && tasks[0] == STRAY_TASK);
-                Ok(())
-            }
+            Ok(_) => false,
+            Err(fault) => tells(fault, number, line, column)
+                && kinds[0] == STRAY_KIND
+                && tasks[0] == STRAY_TASK,
         }
     }
 
-    fn wrong(rt: &impl Abort, case: &Case) -> Result<(), Fail> {
+    fn wrong(rt: &impl Abort, i: usize, case: &Case) {
         let mut text = [0u8; 256];
         let n = append(&mut text, 0, good_lines(case.0));
         let n = append(&mut text, n, case.1);
-        assert!(rt; n <= 256);
-        refused(rt, &text[0..n], case.2, case.3, case.4)
+        assert!(rt; n <= 256, "case {i}");
+        assert!(rt; refused(&text[0..n], case.2, case.3, case.4), "case {i}");
     }
 
     #[test]
-    fn wrong_texts(rt: HostRuntime) -> Result<(), Fail> {
+    fn wrong_texts(rt: HostRuntime) {
         for i in 0..WRONG.len() {
-            wrong(&rt, &WRONG[i]).note(i)?;
+            wrong(&rt, i, &WRONG[i]);
         }
-        Ok(())
     }
 
     // Rows are refused so, and the buffer stays as it was.
-    fn unwritten(rt: &impl Abort, case: &Rows) -> Result<(), Fail> {
+    fn unwritten(rt: &impl Abort, i: usize, case: &Rows) {
         let kinds = [case.1; 64];
         let tasks = [case.3; 32];
         let mut buffer = [7u8; 256];
-        assert!(rt; case.2 <= 64 && case.4 <= 32 && case.5 <= 256);
+        assert!(rt; case.2 <= 64 && case.4 <= 32 && case.5 <= 256, "case {i}");
         match table_writer::write(
             case.0,
             STATICS,
@@ -325,29 +316,29 @@ mod tests {
             &tasks[0..case.4],
             &mut buffer[0..case.5],
         ) {
-            Ok(_) => Err(Fail::new("written")),
+            Ok(_) => assert!(rt; false, "case {i} is written"),
             Err(fault) => {
-                assert!(rt; tells(fault, case.6, case.7, case.8));
-                assert!(rt; buffer[0] == 7);
-                Ok(())
+                assert!(rt; tells(fault, case.6, case.7, case.8), "case {i}");
+                assert!(rt; buffer[0] == 7, "case {i}");
             }
         }
     }
 
     #[test]
-    fn wrong_rows(rt: HostRuntime) -> Result<(), Fail> {
+    fn wrong_rows(rt: HostRuntime) {
         for i in 0..UNWRITTEN.len() {
-            unwritten(&rt, &UNWRITTEN[i]).note(i)?;
+            unwritten(&rt, i, &UNWRITTEN[i]);
         }
-        Ok(())
     }
 
     // What is read is written again as the same text, and the rest of the buffer stays.
-    fn copied(rt: &impl Abort, text: &[u8]) -> Result<(), Fail> {
+    fn copied(text: &[u8]) -> Result<bool, Fault> {
         let mut kinds = [NO_KIND; MAX_KINDS];
         let mut tasks = [NO_TASK; MAX_TASKS];
         let table = table::read(text, &mut kinds, &mut tasks)?;
-        assert!(rt; table.kind_count <= MAX_KINDS && table.task_count <= MAX_TASKS);
+        if table.kind_count > MAX_KINDS || table.task_count > MAX_TASKS {
+            return Ok(false);
+        }
         let mut buffer = [7u8; 2048];
         let n = table_writer::write(
             table.heap,
@@ -356,25 +347,22 @@ mod tests {
             &tasks[0..table.task_count],
             &mut buffer,
         )?;
-        assert!(rt; n == text.len() && n < 2048);
-        assert!(rt; buffer.starts_with(text) && buffer[n] == 7);
-        Ok(())
+        Ok(n == text.len() && n < 2048 && buffer.starts_with(text) && buffer[n] == 7)
     }
 
-    fn accepted(rt: &impl Abort, case: &Good) -> Result<(), Fail> {
+    fn accepted(rt: &impl Abort, i: usize, case: &Good) {
         let mut text = [0u8; 256];
         let n = append(&mut text, 0, good_lines(case.0));
         let n = append(&mut text, n, case.1);
-        assert!(rt; n <= 256);
-        copied(rt, &text[0..n])
+        assert!(rt; n <= 256, "case {i}");
+        assert!(rt; copied(&text[0..n]) == Ok(true), "case {i}");
     }
 
     #[test]
-    fn good_texts(rt: HostRuntime) -> Result<(), Fail> {
+    fn good_texts(rt: HostRuntime) {
         for i in 0..GOOD.len() {
-            accepted(&rt, &GOOD[i]).note(i)?;
+            accepted(&rt, i, &GOOD[i]);
         }
-        Ok(())
     }
 
     // A table of so many kinds and tasks.
@@ -395,13 +383,14 @@ mod tests {
         let mut text = [0u8; 1024];
         let n = counted(32, 16, &mut text);
         assert!(rt; n <= 1024);
-        copied(&rt, &text[0..n])?;
+        assert!(rt; copied(&text[0..n])?);
         let n = counted(33, 16, &mut text);
         assert!(rt; n <= 1024);
-        refused(&rt, &text[0..n], 2, 35, 1)?;
+        assert!(rt; refused(&text[0..n], 2, 35, 1));
         let n = counted(32, 17, &mut text);
         assert!(rt; n <= 1024);
-        refused(&rt, &text[0..n], 2, 51, 1)
+        assert!(rt; refused(&text[0..n], 2, 51, 1));
+        Ok(())
     }
 
     #[test]
@@ -416,7 +405,7 @@ mod tests {
     }
 
     // With room for so many kinds and tasks, a table of two each is refused at a line, or at 0 accepted.
-    fn full(rt: &impl Abort, kind_room: usize, task_room: usize, line: usize) -> Result<(), Fail> {
+    fn full(rt: &impl Abort, kind_room: usize, task_room: usize, line: usize) {
         let mut kinds = [NO_KIND; 2];
         let mut tasks = [NO_TASK; 2];
         assert!(rt; kind_room <= 2 && task_room <= 2);
@@ -428,32 +417,26 @@ mod tests {
             &mut kinds[0..kind_room],
             &mut tasks[0..task_room],
         ) {
-            Ok(_) => {
-                assert!(rt; line == 0);
-                Ok(())
-            },
-            Err(fault) => {
-                assert!(rt; tells(fault, 2, line, 1));
-                Ok(())
-            },
+            Ok(_) => assert!(rt; line == 0),
+            Err(fault) => assert!(rt; tells(fault, 2, line, 1)),
         }
     }
 
     #[test]
-    fn full_lists(rt: HostRuntime) -> Result<(), Fail> {
-        full(&rt, 2, 2, 0)?;
-        full(&rt, 0, 2, 3)?;
-        full(&rt, 1, 2, 4)?;
-        full(&rt, 2, 0, 5)?;
-        full(&rt, 2, 1, 6)
+    fn full_lists(rt: HostRuntime) {
+        full(&rt, 2, 2, 0);
+        full(&rt, 0, 2, 3);
+        full(&rt, 1, 2, 4);
+        full(&rt, 2, 0, 5);
+        full(&rt, 2, 1, 6);
     }
 
     // Nothing but line ends, up to one byte more than a text may have.
     #[test]
-    fn sizes(rt: HostRuntime) -> Result<(), Fail> {
+    fn sizes(rt: HostRuntime) {
         let text = [b'\n'; 8193];
-        refused(&rt, &text[0..1], 2, 1, 1)?;
-        refused(&rt, &text[0..8192], 2, 1, 1)?;
-        refused(&rt, &text, 6, 0, 0)
+        assert!(rt; refused(&text[0..1], 2, 1, 1));
+        assert!(rt; refused(&text[0..8192], 2, 1, 1));
+        assert!(rt; refused(&text, 6, 0, 0));
     }
 }

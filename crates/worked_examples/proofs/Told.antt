@@ -1,11 +1,10 @@
 -- The tables worked out by hand.
-use Rattle.std.proofs.Common.{◌≡◌, ℕ, zero, suc, ◌+◌, ◌<◌, ◌≤◌, true, false, List, [], ◌∷◌, Some, None, Ok, sym, refl, ap, ◌∙◌, subst, arith}
+use Rattle.std.proofs.Common.{◌≡◌, ℕ, zero, suc, ◌<◌, ◌≤◌, List, [], ◌∷◌, Some, Ok, sym, refl, ◌∙◌, subst, arith}
 use Rattle.std.specs.Fmt.{digits}
 use Rattle.fault.specs.Told.{answered, refused, nowhere}
 use Rattle.fault.specs.Told.{admission as in_admission}
 use Rattle.table.specs.Format.{render, field}
 use Rattle.table.specs.Checking.{check}
-use Rattle.table.specs.Laws.{Accepted}
 use Rattle.table.proofs.Complete.{check_complete}
 use Rattle.table.proofs.Sound.{answer_same}
 use Rattle.admission.specs.declared.task.Task as plans_task
@@ -18,7 +17,7 @@ use Rattle.admission.proofs.Searching.{none_is}
 use Rattle.admission.proofs.Verdicts.{says_7, says_8_flip, says_9, says_10}
 use Rattle.std.specs.List.{ContainsAt as Has}
 use Rattle.queue.specs.declared.entries.Source.TheVariants.{Task, Collector}
-use Rattle.releases.specs.Releases.{period_at, FirstReleases, Firsts, nth}
+use Rattle.releases.specs.Releases.{period_at, FirstReleases, nth}
 use Rattle.releases.proofs.Forecasts.{Good, good_start, good_step, good_end}
 use Rattle.worked_examples.specs.Tables.{Plans, Tables, table, text, release, releases}
 use Rattle.worked_examples.proofs.Worked.{found, limits, refuses, admits, plans}

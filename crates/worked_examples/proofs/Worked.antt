@@ -1,8 +1,7 @@
 -- Plans of tables, from what their searches find.
-use Rattle.std.proofs.Common.{◌≡◌, ℕ, zero, suc, ◌+◌, ◌<◌, ◌≤◌, Bool, true, false, cond, List, [], ◌∷◌, length, Some, None, Ok, Err, sym, refl, ap, ◌∙◌, subst, inl, inr, arith}
+use Rattle.std.proofs.Common.{◌≡◌, ℕ, zero, suc, ◌+◌, ◌≤◌, Bool, true, false, cond, List, [], length, Some, Ok, sym, refl, ap, ◌∙◌, subst, inr, arith}
 use Rattle.std.proofs.lemmas.Bool.{both_ways}
-use Rattle.fault.specs.Told.{Told, answered, refused, nowhere}
-use Rattle.fault.specs.Told.{admission as in_admission}
+use Rattle.fault.specs.Told.{Told, answered}
 use Rattle.table.specs.Format.{Rows}
 use Rattle.table.specs.Limits.{Limits}
 use Rattle.admission.specs.declared.task.Task.{Task}
@@ -15,7 +14,7 @@ use Rattle.admission.proofs.Ranking.{few_ranked}
 use Rattle.admission.proofs.Rising.{EachSized}
 use Rattle.admission.proofs.Rows.{tabled}
 use Rattle.admission.proofs.Searching.{largest_is, fits_fall}
-use Rattle.admission.proofs.Verdicts.{says_7, says_8_flip, says_9, says_10, says_plan}
+use Rattle.admission.proofs.Verdicts.{says_plan}
 use Rattle.worked_examples.specs.Tables.{Plans, table}
 
 -- what is found among fewer numbers is found among more

@@ -1,11 +1,10 @@
 -- Tables worked out by hand, and told by the definitions.
 use Rattle.std.specs.Prelude.{◌≡◌, ℕ, List, [], ◌∷◌, ◌++◌, codes}
-use Rattle.fault.specs.Told.{Told, answered, refused, nowhere}
+use Rattle.fault.specs.Told.{answered, refused, nowhere}
 use Rattle.fault.specs.Told.{admission as in_admission}
 use Rattle.queue.specs.declared.entries.Release.{Release}
 use Rattle.queue.specs.declared.entries.Source.{Source}
 use Rattle.queue.specs.declared.entries.Source.TheVariants.{Task, Collector}
-use Rattle.table.specs.declared.rows.TaskRow.{TaskRow}
 use Rattle.table.specs.Format.{Rows}
 use Rattle.table.specs.Checking.{check}
 use Rattle.admission.specs.declared.figures.Figures.{Figures}

@@ -1,5 +1,5 @@
-use Rattle.std.proofs.Common.{◌≡◌, ◌*◌, ◌≤◌, true, false, length, sym, refl, ap, ◌∙◌, subst, rules}
-use Rattle.census.specs.Finds.{Sound, Roomy, nothing}
+use Rattle.std.proofs.Common.{length, sym, refl, subst, rules}
+use Rattle.census.specs.Finds.{Sound, Roomy}
 use Rattle.census.proofs.Searches.{begins, roomy_begins, rooted_on, counted}
 use Rattle.census.proofs.census.Goals as goal
 

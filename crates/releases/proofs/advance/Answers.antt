@@ -1,6 +1,5 @@
-use Rattle.std.proofs.Common.{◌≡◌, ◌≤◌, sym, refl, ap, ◌∙◌, subst, arith}
+use Rattle.std.proofs.Common.{◌∙◌, subst, arith}
 use Rattle.std.specs.List.{AllByRecursion as All}
-use Rattle.queue.specs.Lists.{held}
 use Rattle.queue.specs.Lent.{lent}
 use Rattle.queue.proofs.Batches.{first_taken, none_taken}
 use Rattle.releases.proofs.Forecasts.{Slight, advanced}

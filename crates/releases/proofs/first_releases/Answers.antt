@@ -1,14 +1,13 @@
-use Rattle.std.proofs.Common.{◌≡◌, ◌+◌, ◌*◌, ◌≤◌, List, [], ◌∷◌, ◌++◌, length, take, set, sym, refl, ap, ◌∙◌, subst, arith}
+use Rattle.std.proofs.Common.{◌≡◌, ◌+◌, ◌*◌, List, [], ◌∷◌, ◌++◌, length, take, set, sym, refl, ap, ◌∙◌, subst, arith}
 use Rattle.std.specs.List.{AllByRecursion as All}
 use Rattle.std.proofs.lemmas.List.{length-set, take_more_set, take_all}
 use Rattle.std.proofs.ByRecursion.{All-weaker}
 use Rattle.queue.specs.declared.entries.Release.{Release}
 use Rattle.queue.specs.Lists.{held}
 use Rattle.queue.specs.Lent.{lent}
-use Rattle.admission.specs.Planned.{figures_in}
 use Rattle.admission.specs.Sound.{Sound}
 use Rattle.admission.proofs.Invariant.{sound_plan}
-use Rattle.releases.specs.Releases.{Listed, FirstReleases}
+use Rattle.releases.specs.Releases.{FirstReleases}
 use Rattle.releases.proofs.Forecasts.{listed, Slight, slight_start, slight_step, Good, some_period, good_start, good_more, good_end}
 use Rattle.releases.proofs.first_releases.Goals as goal
 

@@ -1,4 +1,4 @@
-use Rattle.std.proofs.Common.{◌≡◌, ◌+◌, ◌≤◌, [], length, sym, refl, ap, ◌∙◌, subst, arith}
+use Rattle.std.proofs.Common.{◌≡◌, ◌+◌, [], sym, ap, ◌∙◌, subst, arith}
 use Rattle.queue.specs.Lists.{held, waiting}
 use Rattle.queue.specs.Lent.{lent}
 use Rattle.queue.specs.Orders.{inserted}

@@ -1,7 +1,6 @@
-use Rattle.std.proofs.Common.{◌≡◌, ℕ, ◌+◌, ◌<◌, ◌≤◌, true, false, sym, refl, ap, ◌∙◌, subst, arith, rules}
+use Rattle.std.proofs.Common.{◌≡◌, ℕ, true, subst, arith, rules}
 use Rattle.std.proofs.lemmas.Result.{err_from_is_err_and}
 use Rattle.heap.specs.Handles.{stray}
-use Rattle.heap.specs.Objects.{size_of}
 use Rattle.kinds.specs.Maps.{bits_set}
 use Rattle.kinds.proofs.Ones.{bits_none, scan_more}
 use Rattle.census.specs.Finds.{named}

@@ -1,6 +1,6 @@
 -- Taking the next release and putting the one after it: what is listed, and what waits.
 use Rattle.std.proofs.Common.{◌≡◌, ℕ, zero, suc, ◌+◌, ◌-◌, ◌*◌, ◌<◌, ◌≤◌, true, false, eqb, ltb, ◌⊎◌, List, [], ◌∷◌, ◌++◌, length, get_or, Some, sym, refl, ap, ◌∙◌, subst, inl, inr, mul-le-mul_right, add-mul, one-mul, zero-mul, arith}
-use Rattle.std.specs.List.{ContainsAt as Has, AllByRecursion as All}
+use Rattle.std.specs.List.{ContainsAt as Has, AllByRecursion}
 use Rattle.std.proofs.ByRecursion.{All-weaker, All-push, all-has, All-get_or, has_append_left, has_push, has_shuffled}
 use Rattle.std.proofs.lemmas.Bool.{cases_Bool, cases_eq, cases_lt, both_ways, cond-true, cond-false, eq-eqb, ne_eqb, lt-ltb, le-ltb}
 use Rattle.queue.specs.declared.entries.Release.{Release}
@@ -48,11 +48,11 @@ upto_before x y z h k =
       | inr f ↦ f
     ]
 
-rising_push : (xs : List Release) (x : Release) → Rising xs → All (λ z. Before z x) xs → Rising (xs ++ x ∷ [])
+rising_push : (xs : List Release) (x : Release) → Rising xs → AllByRecursion (λ z. Before z x) xs → Rising (xs ++ x ∷ [])
 rising_push [] x r a = (tt, tt)
 rising_push (y ∷ xs) x r a = (All-push (Before y) xs x r.0 a.0, rising_push xs x r.1 a.1)
 
-pub rising_inserted : (x : Release) (ys : List Release) → Rising ys → All (λ y. x ≡ y → ⊥) ys → Rising (inserted sooner x ys)
+pub rising_inserted : (x : Release) (ys : List Release) → Rising ys → AllByRecursion (λ y. x ≡ y → ⊥) ys → Rising (inserted sooner x ys)
 rising_inserted x [] r d = (tt, tt)
 rising_inserted x (y ∷ ys) r d =
     elim (cases_Bool (sooner y x)) [
@@ -105,16 +105,16 @@ module _ (f : Figures) (some : (i : ℕ) → i ≤ f.task_count → 1 ≤ period
   abbrev Due : List Release → Release → Type 0
   Due listed y = (i : ℕ) × (m : ℕ) × (i ≤ f.task_count) × (y ≡ nth f i m) × ((j : ℕ) → j < m → Has listed (nth f i j))
 
-  abbrev Some_release : Release → Type 0
-  Some_release y = (i : ℕ) × (m : ℕ) × (i ≤ f.task_count) × (y ≡ nth f i m)
+  abbrev SomeRelease : Release → Type 0
+  SomeRelease y = (i : ℕ) × (m : ℕ) × (i ≤ f.task_count) × (y ≡ nth f i m)
 
   pub record Good (listed waits : List Release) : Type 0 where
     pub order : Rising waits
-    pub due : All (Due listed) waits
+    pub due : AllByRecursion (Due listed) waits
     pub has : (i : ℕ) → i ≤ f.task_count → (m : ℕ) × Has waits (nth f i m)
-    pub below : All (λ x. All (Before x) waits) listed
+    pub below : AllByRecursion (λ x. AllByRecursion (Before x) waits) listed
     pub rises : Rising listed
-    pub each : All Some_release listed
+    pub each : AllByRecursion SomeRelease listed
 
   due_more : (listed : List Release) (x y : Release) → Due listed y → Due (listed ++ x ∷ []) y
   due_more listed x y d = (d.0, d.1, d.2, d.3, λ j h. has_append_left listed (x ∷ []) (nth f d.0 j) (d.4 j h))
@@ -154,7 +154,7 @@ module _ (f : Figures) (some : (i : ℕ) → i ≤ f.task_count → 1 ≤ period
   earlier listed i m k n same r h all = subst (λ v. Has listed (nth f v m)) (sym r) (all m (count_same i k (m + 1) n m same r h (omega arith)))
 
   -- it does not wait yet: the one before it would be listed
-  apart_from : (listed waits : List Release) (x y : Release) (i m : ℕ) → i ≤ f.task_count → x ≡ nth f i m → y ≡ nth f i (m + 1) → All (λ z. Before z x) listed → All (Due listed) waits → All (λ z. y ≡ z → ⊥) waits
+  apart_from : (listed waits : List Release) (x y : Release) (i m : ℕ) → i ≤ f.task_count → x ≡ nth f i m → y ≡ nth f i (m + 1) → AllByRecursion (λ z. Before z x) listed → AllByRecursion (Due listed) waits → AllByRecursion (λ z. y ≡ z → ⊥) waits
   apart_from listed [] x y i m h e g below due = tt
   apart_from listed (z ∷ waits) x y i m h e g below due = (
     λ q.
@@ -175,9 +175,9 @@ module _ (f : Figures) (some : (i : ℕ) → i ≤ f.task_count → 1 ≤ period
       let is : y ≡ nth f i (m + 1) = ap (next f) d.3 ∙ next_nth i m in
       let x_here : Has (listed ++ x ∷ []) (nth f i m) = subst (Has (listed ++ x ∷ [])) d.3 (has_push listed x) in
       let y_due : Due (listed ++ x ∷ []) y = (i, m + 1, d.2, is, λ j h. elim (cases_eq j m) [ inl e ↦ subst (λ k. Has (listed ++ x ∷ []) (nth f i k)) (sym e) x_here | inr n ↦ has_append_left listed (x ∷ []) (nth f i j) (d.4 j (omega arith)) ]) in
-      let x_below : All (λ z. Before z x) listed = All-weaker (λ z. All (Before z) (x ∷ waits)) (λ z. Before z x) (λ z h. h.0) listed g.below in
+      let x_below : AllByRecursion (λ z. Before z x) listed = All-weaker (λ z. AllByRecursion (Before z) (x ∷ waits)) (λ z. Before z x) (λ z h. h.0) listed g.below in
       let x_y : Before x y = later x y i m d.2 d.3 is in
-      let apart : All (λ z. y ≡ z → ⊥) waits = apart_from listed waits x y i m d.2 d.3 is x_below g.due.1 in
+      let apart : AllByRecursion (λ z. y ≡ z → ⊥) waits = apart_from listed waits x y i m d.2 d.3 is x_below g.due.1 in
       record {
         order = rising_inserted y waits g.order.1 apart;
         due = all_inserted sooner (Due (listed ++ x ∷ [])) y waits y_due (All-weaker (Due listed) (Due (listed ++ x ∷ [])) (λ z. due_more listed x z) waits g.due.1);
@@ -189,11 +189,11 @@ module _ (f : Figures) (some : (i : ℕ) → i ≤ f.task_count → 1 ≤ period
                   (m + 1, inserted_has y (nth f k (m + 1)) waits (subst (λ r. Has (y ∷ waits) r) (is ∙ ap (λ v. nth f v (m + 1)) (sym q)) (has_head y waits))))
               | inr t ↦ (p.0, inserted_has y (nth f k p.0) waits (has_tail y (nth f k p.0) waits t))
             ];
-        below = All-push (λ z. All (Before z) (inserted sooner y waits)) listed x
-            (All-weaker (λ z. All (Before z) (x ∷ waits)) (λ z. All (Before z) (inserted sooner y waits)) (λ z h. all_inserted sooner (Before z) y waits (before_trans z x y h.0 x_y) h.1) listed g.below)
+        below = All-push (λ z. AllByRecursion (Before z) (inserted sooner y waits)) listed x
+            (All-weaker (λ z. AllByRecursion (Before z) (x ∷ waits)) (λ z. AllByRecursion (Before z) (inserted sooner y waits)) (λ z h. all_inserted sooner (Before z) y waits (before_trans z x y h.0 x_y) h.1) listed g.below)
             (all_inserted sooner (Before x) y waits x_y g.order.0);
         rises = rising_push listed x g.rises x_below;
-        each = All-push Some_release listed x g.each (i, m, d.2, d.3);
+        each = All-push SomeRelease listed x g.each (i, m, d.2, d.3);
       }
 
   -- Nothing is listed yet.
@@ -241,12 +241,12 @@ module _ (f : Figures) (some : (i : ℕ) → i ≤ f.task_count → 1 ≤ period
   good_end n rs waits l g =
       record {
         count = l;
-        each = λ k h. All-get_or Some_release rs k nobody (omega arith) g.each;
+        each = λ k h. All-get_or SomeRelease rs k nobody (omega arith) g.each;
         rise = λ j k h m. rising_at rs j k nobody g.rises h (omega arith);
         all = λ i m k h c t.
             let last = get_or rs k nobody in
             let w = g.has i h in
-            let b : Before last (nth f i w.0) = all-has (Before last) waits (nth f i w.0) (All-get_or (λ x. All (Before x) waits) rs k nobody (omega arith) g.below) w.1 in
+            let b : Before last (nth f i w.0) = all-has (Before last) waits (nth f i w.0) (All-get_or (λ x. AllByRecursion (Before x) waits) rs k nobody (omega arith) g.below) w.1 in
             let d = all-has (Due rs) waits (nth f i w.0) g.due w.1 in
             elim (cases_lt m w.0) [
               | inr y ↦
@@ -274,7 +274,7 @@ advanced f x y q r s w some e n p =
     let a : held s ≡ inserted sooner (next f x) (held (without 1 q)) = u.0 ∙ ap (λ v. inserted sooner v (held r)) n ∙ ap (λ v. inserted sooner (next f x) (held v)) e in
     (u.2 ∙ m, omega (arith, u.1, t.0), record { rest = held (without 1 q); taken = t.1; waits = a })
 
-firsts_apart : (f : Figures) (n : ℕ) (waits : List Release) → All (λ y. (i : ℕ) × (i < n) × (y ≡ nth f i 0)) waits → All (λ y. nth f n 0 ≡ y → ⊥) waits
+firsts_apart : (f : Figures) (n : ℕ) (waits : List Release) → AllByRecursion (λ y. (i : ℕ) × (i < n) × (y ≡ nth f i 0)) waits → AllByRecursion (λ y. nth f n 0 ≡ y → ⊥) waits
 firsts_apart f n [] a = tt
 firsts_apart f n (y ∷ ys) a =
     (λ e. let r : n ≡ a.0.0 = ap (λ u. u.rank) (e ∙ a.0.2) in omega (arith, a.0.1), firsts_apart f n ys a.1)
@@ -309,15 +309,15 @@ small_period f l i =
 abbrev pub Slight : Figures → ℕ → Release → Type 0
 Slight f t y = (y.rank ≤ f.task_count) × (y.tick ≤ t)
 
-pub slight_step : (f : Figures) → Listed f → (t : ℕ) (before after : List Release) (r : Release) → Advanced f before r after → All (Slight f t) before → All (Slight f (t + 1000000)) after
+pub slight_step : (f : Figures) → Listed f → (t : ℕ) (before after : List Release) (r : Release) → Advanced f before r after → AllByRecursion (Slight f t) before → AllByRecursion (Slight f (t + 1000000)) after
 slight_step f l t before after r a h =
-    let s = subst (All (Slight f t)) a.taken h in
+    let s = subst (AllByRecursion (Slight f t)) a.taken h in
     let n : Slight f (t + 1000000) (next f r) = (s.0.0, omega (arith, s.0.1, small_period f l r.rank)) in
-    subst (All (Slight f (t + 1000000))) (sym a.waits)
+    subst (AllByRecursion (Slight f (t + 1000000))) (sym a.waits)
     (all_inserted sooner (Slight f (t + 1000000)) (next f r) a.rest n
     (All-weaker (Slight f t) (Slight f (t + 1000000)) (λ y p. (p.0, omega (arith, p.1))) a.rest s.1))
 
-pub slight_start : (f : Figures) (waits : List Release) → Firsts f (f.task_count + 1) waits → All (Slight f 0) waits
+pub slight_start : (f : Figures) (waits : List Release) → Firsts f (f.task_count + 1) waits → AllByRecursion (Slight f 0) waits
 slight_start f waits s =
     All-weaker (λ y. (i : ℕ) × (i < f.task_count + 1) × (y ≡ nth f i 0)) (Slight f 0)
     (λ y p.

@@ -4,7 +4,7 @@ use Rattle.std.specs.Prelude.{◌≡◌, ℕ, ◌+◌, ◌*◌, ◌<◌, ◌≤�
 use Rattle.queue.specs.declared.entries.Release.{Release}
 use Rattle.queue.specs.declared.entries.Source.{Source}
 use Rattle.queue.specs.declared.entries.Source.TheVariants.{Task, Collector}
-use Rattle.std.specs.List.{ContainsAt as Has, AllByRecursion as All}
+use Rattle.std.specs.List.{ContainsAt as Has, AllByRecursion}
 use Rattle.queue.specs.Entries.{sooner}
 use Rattle.queue.specs.Orders.{inserted}
 use Rattle.admission.specs.declared.figures.Figures.{Figures}
@@ -31,7 +31,7 @@ Before x y = sooner y x ≡ false
 -- a list that rises
 abbrev pub Rising : List Release → Type 0
 Rising [] = Unit {0}
-Rising (x ∷ xs) = All (Before x) xs × Rising xs
+Rising (x ∷ xs) = AllByRecursion (Before x) xs × Rising xs
 
 -- a list of the first releases: each is one, they rise, and none is left out
 pub record FirstReleases (f : Figures) (n : ℕ) (rs : List Release) : Type 0 where
@@ -54,7 +54,7 @@ pub record Listed (f : Figures) : Type 0 where
 -- the first releases of the first n sources wait in order
 pub record Firsts (f : Figures) (n : ℕ) (waits : List Release) : Type 0 where
   pub order : Rising waits
-  pub each : All (λ y. (i : ℕ) × (i < n) × (y ≡ nth f i 0)) waits
+  pub each : AllByRecursion (λ y. (i : ℕ) × (i < n) × (y ≡ nth f i 0)) waits
   pub has : (i : ℕ) → i < n → Has waits (nth f i 0)
 
 -- the first that waited is taken, and the one after it waits in its place

@@ -2,7 +2,7 @@
 #![tactic(auto)]
 
 ghost use Rattle.std.specs.Prelude.{◌≡◌, ℕ, ◌+◌, ◌*◌, ◌≤◌, length, MatchOption};
-ghost use Rattle.std.specs.List.{AllByRecursion as All};
+ghost use Rattle.std.specs.List.{AllByRecursion};
 ghost use Rattle.queue.specs.Lists.{held};
 ghost use Rattle.queue.specs.Lent.{lent};
 ghost use Rattle.admission.specs.Planned.{figures_in};
@@ -86,7 +86,7 @@ fn advance(figures: &Figures, queue: &mut Queue<Release>) -> Release
     requires listed { Listed figures.now }
     requires room { length (lent queue.old).entries ≡ 17 }
     requires some { 1 ≤ (lent queue.old).len }
-    requires ranks { All (λ y. (y.rank ≤ figures.now.task_count) × (y.tick ≤ 8000000)) (held (lent queue.old)) }
+    requires ranks { AllByRecursion (λ y. (y.rank ≤ figures.now.task_count) × (y.tick ≤ 8000000)) (held (lent queue.old)) }
     ensures room { length (lent queue.new).entries ≡ 17 }
     ensures len { (lent queue.new).len ≡ (lent queue.old).len }
     ensures step { Advanced figures.now (held (lent queue.old)) result (held (lent queue.new)) }

@@ -1,6 +1,6 @@
 -- The text that writes rows within limits is accepted with those rows.
 use Rattle.std.proofs.Common.{◌≡◌, ℕ, ◌+◌, ◌-◌, ◌*◌, ◌≤◌, true, eqb, leb, List, [], ◌∷◌, ◌++◌, map, length, get_or, codes, decimal, sym, refl, ap, ◌∙◌, suc-mul, arith}
-use Rattle.std.specs.List.{AllByRecursion as All}
+use Rattle.std.specs.List.{AllByRecursion}
 use Rattle.std.proofs.lemmas.Bool.{cond-true, and_from, le-leb, eq-eqb}
 use Rattle.std.proofs.lemmas.List.{get_or_at, length-append}
 use Rattle.std.proofs.lemmas.Fmt.{length-decimal-le}
@@ -59,7 +59,7 @@ render_whole rows h =
 
 -- rows within limits make a short text
 
-fields_short : (xs : List Cell) (text : List ℕ) → All CellGood xs → length (fields (map (λ x. x.value) xs) text) ≤ length xs * 11 + (1 + length text)
+fields_short : (xs : List Cell) (text : List ℕ) → AllByRecursion CellGood xs → length (fields (map (λ x. x.value) xs) text) ≤ length xs * 11 + (1 + length text)
 unfolding field
 fields_short [] text h = omega arith
 fields_short (x ∷ xs) text h =
@@ -68,11 +68,11 @@ fields_short (x ∷ xs) text h =
     let a = length-append (decimal x.value) (fields (map (λ x. x.value) xs) text) in
     omega (arith, fields_short xs text h.1)
 
-line_short : (w : List ℕ) (xs : List Cell) (text : List ℕ) → All CellGood xs → length (line w (map (λ x. x.value) xs) text) ≤ length w + (length xs * 11 + (1 + length text))
+line_short : (w : List ℕ) (xs : List Cell) (text : List ℕ) → AllByRecursion CellGood xs → length (line w (map (λ x. x.value) xs) text) ≤ length w + (length xs * 11 + (1 + length text))
 line_short w xs text h =
     omega (arith, length-append w (fields (map (λ x. x.value) xs) text), fields_short xs text h)
 
-lines_short : {R : Type 0} (Good : R → Type 0) (w : List ℕ) (numbers : R → List ℕ) (m : ℕ) → ((r : R) (text : List ℕ) → Good r → length (line w (numbers r) text) ≤ m + length text) → (rs : List R) (text : List ℕ) → All Good rs → length (lines w numbers rs text) ≤ length rs * m + length text
+lines_short : {R : Type 0} (Good : R → Type 0) (w : List ℕ) (numbers : R → List ℕ) (m : ℕ) → ((r : R) (text : List ℕ) → Good r → length (line w (numbers r) text) ≤ m + length text) → (rs : List R) (text : List ℕ) → AllByRecursion Good rs → length (lines w numbers rs text) ≤ length rs * m + length text
 lines_short Good w numbers m each [] text h = omega arith
 lines_short Good w numbers m each (r ∷ rs) text h =
     omega (arith, each r (lines w numbers rs text) h.0, lines_short Good w numbers m each rs text h.1, suc-mul (length rs) m)

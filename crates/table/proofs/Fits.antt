@@ -1,6 +1,6 @@
 -- The first refusal of the text that writes rows, reckoned from the rows.
 use Rattle.std.proofs.Common.{◌≡◌, ℕ, zero, suc, ◌+◌, ◌-◌, ◌^◌, ◌<◌, ◌≤◌, min, Bool, true, false, cond, not, eqb, ltb, leb, List, [], ◌∷◌, length, refl, ◌∙◌, inl, inr, arith, pow_mono}
-use Rattle.std.specs.List.{AllByRecursion as All}
+use Rattle.std.specs.List.{AllByRecursion}
 use Rattle.std.proofs.lemmas.Bool.{and_from, le-leb, lt-ltb, eq-eqb, ne_eqb, not_from_false}
 use Rattle.fault.specs.Told.{Told, answered}
 use Rattle.table.specs.declared.rows.HeapRow.{HeapRow}
@@ -86,7 +86,7 @@ pub record CellGood (x : Cell) : Type 0 where
   pub low_is : x.low ≤ x.value
   pub high_is : x.value ≤ x.high
 
-cells_good : {A : Type 0} (l c : ℕ) (xs : List Cell) (k : Told A) → All CellGood xs → cells_fit l c xs k ≡ k
+cells_good : {A : Type 0} (l c : ℕ) (xs : List Cell) (k : Told A) → AllByRecursion CellGood xs → cells_fit l c xs k ≡ k
 cells_good l c [] k h = refl
 cells_good l c (x ∷ xs) k h =
     let s = lt-ltb x.value (10 ^ 10) h.0.short in
@@ -99,13 +99,13 @@ good low high n s w = record { short = omega arith; low_is = w.0; high_is = w.1 
 upto : (high n : ℕ) → high < 10 ^ 10 → n ≤ high → CellGood (cell 0 high n)
 upto high n s w = good 0 high n s (omega arith)
 
-pub heap_good : (r : HeapRow) → HeapLimits r → All CellGood (heap_cells r)
+pub heap_good : (r : HeapRow) → HeapLimits r → AllByRecursion CellGood (heap_cells r)
 heap_good r h = (good 1 8192 r.space (omega arith) h.space, (good 1 256 r.handles (omega arith) h.handles, tt))
 
-pub static_good : (r : StaticRow) → StaticLimits r → All CellGood (static_cells r)
+pub static_good : (r : StaticRow) → StaticLimits r → AllByRecursion CellGood (static_cells r)
 static_good r h = (upto 8192 r.words (omega arith) h.words, (upto 256 r.objects (omega arith) h.objects, tt))
 
-pub kind_good : (r : KindRow) → KindLimits r → All CellGood (kind_cells r)
+pub kind_good : (r : KindRow) → KindLimits r → AllByRecursion CellGood (kind_cells r)
 kind_good r h =
     let p : 2 ^ r.size ≤ 2 ^ 32 = pow_mono h.size.1 in
     let m : r.map ≤ 2 ^ r.size - 1 = omega (arith, h.map) in
@@ -119,7 +119,7 @@ consumer_good life consumer h (inr e) =
     let z = ne_eqb life 0 (λ q. omega arith) in
     rw z (good 0 0 consumer (omega arith) (omega (arith, e.1)))
 
-pub task_good : (r : TaskRow) → TaskLimits r → All CellGood (task_cells r)
+pub task_good : (r : TaskRow) → TaskLimits r → AllByRecursion CellGood (task_cells r)
 task_good r h =
     let p = h.period in
     let d = h.deadline in (
@@ -142,7 +142,7 @@ task_good r h =
       ),
     )
 
-rows_good : {R A : Type 0} (Good : R → Type 0) (cells : R → List Cell) → ((r : R) → Good r → All CellGood (cells r)) → (c room l : ℕ) (rs : List R) (k : Told A) → All Good rs → length rs ≤ room → rows_fit cells c room l rs k ≡ k
+rows_good : {R A : Type 0} (Good : R → Type 0) (cells : R → List Cell) → ((r : R) → Good r → AllByRecursion CellGood (cells r)) → (c room l : ℕ) (rs : List R) (k : Told A) → AllByRecursion Good rs → length rs ≤ room → rows_fit cells c room l rs k ≡ k
 rows_good Good cells each c room l [] k h few = refl
 rows_good Good cells each c zero l (r ∷ rs) k h few = absurd (omega arith)
 rows_good Good cells each c (suc room) l (r ∷ rs) k h few =

@@ -1,6 +1,6 @@
 -- A text that is accepted writes its rows, and they keep the limits.
 use Rattle.std.proofs.Common.{◌≡◌, ℕ, zero, suc, ◌+◌, ◌≤◌, min, Bool, true, false, cond, not, ◌&&◌, ◌||◌, eqb, leb, List, [], ◌∷◌, ◌++◌, length, get_or, drop, codes, decimal, sym, refl, ap, ◌∙◌, subst, inl, inr, arith, pow_pos}
-use Rattle.std.specs.List.{AllByRecursion as All}
+use Rattle.std.specs.List.{AllByRecursion}
 use Rattle.std.proofs.lemmas.Bool.{and_parts, or_parts, eqb-true, eqb-false, leb-true, not-true}
 use Rattle.std.proofs.lemmas.Slice.Eq.{bytes_eq-Decides}
 use Rattle.std.proofs.lemmas.Bool.Decides.{nat_tests}
@@ -159,7 +159,7 @@ one_sound w numbers Good read each s s' r h =
 
 record LinesHold {R : Type 0} (w : List ℕ) (numbers : R → List ℕ) (Good : R → Type 0) (room : ℕ) (s : Spot) (rs : List R) (s' : Spot) : Type 0 where
   text : s.rest ≡ lines w numbers rs s'.rest
-  good : All Good rs
+  good : AllByRecursion Good rs
   few : length rs ≤ room
 
 close_lines : {R : Type 0} (w : List ℕ) (numbers : R → List ℕ) (Good : R → Type 0) (room : ℕ) (s s1 s' : Spot) (qs rs : List R) → ◌≡◌ {A = Read (List R)} (answered (qs, s1)) (answered (rs, s')) → LinesHold w numbers Good room s qs s1 → LinesHold w numbers Good room s rs s'

@@ -1,6 +1,6 @@
 -- The limits that the rows of a table keep.
 use Rattle.std.specs.Prelude.{◌≡◌, ℕ, ◌+◌, ◌^◌, ◌<◌, ◌≤◌, ◌⊎◌, List, [], ◌∷◌, length, ◌≢◌}
-use Rattle.std.specs.List.{AllByRecursion as All}
+use Rattle.std.specs.List.{AllByRecursion}
 use Rattle.table.specs.declared.rows.HeapRow.{HeapRow}
 use Rattle.table.specs.declared.rows.StaticRow.{StaticRow}
 use Rattle.table.specs.declared.rows.KindRow.{KindRow}
@@ -44,8 +44,8 @@ Consumers count i (r ∷ rs) = ((r.consumer ≤ count) × (r.consumer ≢ i)) ×
 pub record Limits (t : Rows) : Type 0 where
   pub heap : HeapLimits t.heap
   pub statics : StaticLimits t.statics
-  pub kinds : All KindLimits t.kinds
-  pub tasks : All TaskLimits t.tasks
+  pub kinds : AllByRecursion KindLimits t.kinds
+  pub tasks : AllByRecursion TaskLimits t.tasks
   pub kind_count : Within 1 32 (length t.kinds)
   pub task_count : Within 1 16 (length t.tasks)
   pub consumers : Consumers (length t.tasks) 1 t.tasks

@@ -1,5 +1,5 @@
 use Rattle.std.proofs.Common.{◌∙◌, subst, arith}
-use Rattle.std.specs.List.{AllByRecursion as All}
+use Rattle.std.specs.List.{AllByRecursion}
 use Rattle.queue.specs.Lent.{lent}
 use Rattle.queue.proofs.Batches.{first_taken, none_taken}
 use Rattle.releases.proofs.Forecasts.{Slight, advanced}
@@ -9,7 +9,7 @@ pub next_of-requires : goal.next_of-requires
 next_of-requires c =
     let q = lent c.args.queue.now in
     let t = first_taken c.in-Some.release q c.args.queue.now.within c.in-Some.ensures.value in
-    let s = subst (All (Slight c.args.figures.now 8000000)) t.1 c.requires.ranks in
+    let s = subst (AllByRecursion (Slight c.args.figures.now 8000000)) t.1 c.requires.ranks in
     record { listed = c.requires.listed; within = s.0.0; small = s.0.1 }
 
 pub returns-in-Some : goal.returns-in-Some

@@ -1,5 +1,5 @@
 use Rattle.std.proofs.Common.{◌≡◌, ◌+◌, ◌*◌, List, [], ◌∷◌, ◌++◌, length, take, set, sym, refl, ap, ◌∙◌, subst, arith}
-use Rattle.std.specs.List.{AllByRecursion as All}
+use Rattle.std.specs.List.{AllByRecursion}
 use Rattle.std.proofs.lemmas.List.{length-set, take_more_set, take_all}
 use Rattle.std.proofs.ByRecursion.{All-weaker}
 use Rattle.queue.specs.declared.entries.Release.{Release}
@@ -59,7 +59,7 @@ loop-k-preserved c =
       length-set c.loop-k.list k r ∙ v.0,
       a.room,
       a.len ∙ v.2,
-      subst (λ n. All (Slight f n) after) t (slight_step f l (k * 1000000) before after r a.step v.3),
+      subst (λ n. AllByRecursion (Slight f n) after) t (slight_step f l (k * 1000000) before after r a.step v.3),
       λ h. subst (λ (rs : List Release). Good f (some_period f h) rs after) (sym m) (good_more f h before after (take k c.loop-k.list) r a.step (v.4 h)),
     )
 

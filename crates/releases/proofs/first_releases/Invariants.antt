@@ -1,5 +1,5 @@
 use Rattle.std.proofs.Common.{◌≡◌, ◌+◌, ◌*◌, length, take}
-use Rattle.std.specs.List.{AllByRecursion as All}
+use Rattle.std.specs.List.{AllByRecursion}
 use Rattle.queue.specs.Lists.{held}
 use Rattle.queue.specs.Lent.{lent}
 use Rattle.releases.specs.Releases.{Listed}
@@ -11,5 +11,5 @@ invariant-loop-k l =
     (length l.list ≡ 8)
     × (length (lent l.queue).entries ≡ 17)
     × ((lent l.queue).len ≡ l.figures.task_count + 1)
-    × All (Slight l.figures (l.k * 1000000)) (held (lent l.queue))
+    × AllByRecursion (Slight l.figures (l.k * 1000000)) (held (lent l.queue))
     × ((h : Listed l.figures) → Good l.figures (some_period l.figures h) (take l.k l.list) (held (lent l.queue)))

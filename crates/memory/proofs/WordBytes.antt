@@ -10,9 +10,9 @@ pub length_words : (bs : List ℕ) → length (words_of bs) ≡ length bs / 4
 unfolding words_of
 length_words bs = length-map-range_with_len (word_at bs) 0 (length bs / 4)
 
-pub get_d_words : (bs : List ℕ) (p d : ℕ) → p < length bs / 4 → get_or (words_of bs) p d ≡ word_at bs p
+pub get_or_words : (bs : List ℕ) (p d : ℕ) → p < length bs / 4 → get_or (words_of bs) p d ≡ word_at bs p
 unfolding words_of
-get_d_words bs p d h = get_or-map-range_with_len (word_at bs) 0 (length bs / 4) p p d h (omega arith)
+get_or_words bs p d h = get_or-map-range_with_len (word_at bs) 0 (length bs / 4) p p d h (omega arith)
 
 length_put4 : (bs : List ℕ) (i a b c d : ℕ) → length (put4 bs i a b c d) ≡ length bs
 length_put4 bs i a b c d = simp length-set
@@ -67,7 +67,7 @@ set_words bs p v h f =
     same_lists (words_of xs) (set (words_of bs) p v) (omega arith)
     (λ k z lt.
     let t : k < length xs / 4 = rw l (omega arith) in
-    let w = get_d_words xs k z t in
+    let w = get_or_words xs k z t in
     elim (cases_eq k p) [
       | inl q ↦
           (let r = get_or-set_same (words_of bs) p v z (omega arith) in
@@ -76,7 +76,7 @@ set_words bs p v h f =
       | inr q ↦
           (let r = get_or-set_other (words_of bs) p k v z q in
           let y = word_there bs p a b c d k q in
-          let u = get_d_words bs k z (omega arith) in
+          let u = get_or_words bs k z (omega arith) in
           cc)
     ])
 

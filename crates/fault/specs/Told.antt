@@ -88,3 +88,7 @@ nowhere n l = record { number = n; layer = l; place = 0; column = 0 }
 -- a place at or past the end of a memory
 abbrev pub past_end : ℕ → Refusal
 past_end p = record { number = 1; layer = memory; place = p; column = 0 }
+
+-- a refusal in a line of a text, at a column, 0 for none
+abbrev pub in_line : ℕ → Where → ℕ → ℕ → Refusal
+in_line n w l c = record { number = n; layer = w; place = l; column = c }

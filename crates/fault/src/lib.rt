@@ -2,7 +2,7 @@
 #![tactic(auto)]
 
 ghost use Rattle.std.specs.Prelude.{◌≡◌};
-ghost use Rattle.fault.specs.Told.{layer_of, refusal, past_end};
+ghost use Rattle.fault.specs.Told.{number_of, layer_of, refusal, past_end, nowhere, in_line};
 ghost use Rattle.fault.specs.Words.{layer_word};
 
 use std::fmt;
@@ -66,41 +66,6 @@ pub struct Fault {
     pub place: Place,
 }
 
-impl Cause {
-    // A few words for a person.
-    fn words(self) -> &'static str {
-        match self {
-            Cause::PastEnd => "the place is past the end of the memory",
-            Cause::WrongLine => "this line has the wrong first word, order or count",
-            Cause::NotANumber => "this field is not a number",
-            Cause::OutsideLimits => "this number is outside its limits",
-            Cause::WrongFieldCount => "a field is missing or surplus",
-            Cause::WrongSize =>
-                "the text is empty, too long or unfinished, or its buffer too short",
-            Cause::MissesDeadline => "this task can miss its deadline",
-            Cause::CollectorOverload => "the tasks leave the collector too little time",
-            Cause::TooFewWords => "a space has too few words",
-            Cause::TooFewHandles => "the heap has too few handles",
-            Cause::WrongMeasures => "the heap's measures are outside their limits",
-            Cause::Unprepared => "the heap is not prepared",
-            Cause::NoSuchSlot => "there is no such slot",
-            Cause::EmptySlot => "the slot is empty",
-            Cause::NoSuchWord => "the object has no such word",
-            Cause::WrongSort => "the word is a reference and not a number, or the reverse",
-            Cause::NoSuchKind => "there is no such kind",
-            Cause::SpaceFull => "the space has no room for the object",
-            Cause::NoSpareHandle => "no handle is spare",
-            Cause::StrayReference => "a reference names no handle in use",
-            Cause::LiveBoundPassed => "more is alive than was declared",
-            Cause::WrongStage => "the dashboard is at another stage",
-            Cause::ClockEnded => "the clock is at its end",
-            Cause::NotOnTurn => "it is another's turn",
-            Cause::OverAllowance => "the allowance does not cover the object",
-            Cause::QueueFull => "the queue's list is full",
-        }
-    }
-}
-
 impl Layer {
     pub fn name(self) -> &'static str
         ensures { result.now ≡ layer_word (layer_of self) }
@@ -153,6 +118,28 @@ impl Fault {
         }
     }
 
+    // Of a layer, at no place in particular.
+    pub fn nowhere(layer: Layer, cause: Cause) -> Fault
+        ensures { refusal result ≡ nowhere (number_of cause) (layer_of layer) }
+    {
+        Fault {
+            cause,
+            layer,
+            place: Place::Nowhere,
+        }
+    }
+
+    // Of a layer, in a line of a text; column 0 names none.
+    pub fn in_line(layer: Layer, cause: Cause, line: u32, column: u32) -> Fault
+        ensures { refusal result ≡ in_line (number_of cause) (layer_of layer) line column }
+    {
+        Fault {
+            cause,
+            layer,
+            place: Place::Line { line, column },
+        }
+    }
+
     // A place at or past the end of a memory.
     pub fn past_end(place: usize) -> Fault
         ensures { refusal result ≡ past_end place }
@@ -162,6 +149,47 @@ impl Fault {
             layer: Layer::Memory,
             place: Place::Word(place),
         }
+    }
+}
+
+// A few words for a person.
+impl fmt::Display for Cause {
+    fn fmt<W: fmt::Write>(&self, f: &mut fmt::Formatter<W>) -> fmt::Result {
+        f.write_str(match self {
+            Cause::PastEnd => "the place is past the end of the memory",
+            Cause::WrongLine => "this line has the wrong first word, order or count",
+            Cause::NotANumber => "this field is not a number",
+            Cause::OutsideLimits => "this number is outside its limits",
+            Cause::WrongFieldCount => "a field is missing or surplus",
+            Cause::WrongSize =>
+                "the text is empty, too long or unfinished, or its buffer too short",
+            Cause::MissesDeadline => "this task can miss its deadline",
+            Cause::CollectorOverload => "the tasks leave the collector too little time",
+            Cause::TooFewWords => "a space has too few words",
+            Cause::TooFewHandles => "the heap has too few handles",
+            Cause::WrongMeasures => "the heap's measures are outside their limits",
+            Cause::Unprepared => "the heap is not prepared",
+            Cause::NoSuchSlot => "there is no such slot",
+            Cause::EmptySlot => "the slot is empty",
+            Cause::NoSuchWord => "the object has no such word",
+            Cause::WrongSort => "the word is a reference and not a number, or the reverse",
+            Cause::NoSuchKind => "there is no such kind",
+            Cause::SpaceFull => "the space has no room for the object",
+            Cause::NoSpareHandle => "no handle is spare",
+            Cause::StrayReference => "a reference names no handle in use",
+            Cause::LiveBoundPassed => "more is alive than was declared",
+            Cause::WrongStage => "the dashboard is at another stage",
+            Cause::ClockEnded => "the clock is at its end",
+            Cause::NotOnTurn => "it is another's turn",
+            Cause::OverAllowance => "the allowance does not cover the object",
+            Cause::QueueFull => "the queue's list is full",
+        })
+    }
+}
+
+impl fmt::Display for Layer {
+    fn fmt<W: fmt::Write>(&self, f: &mut fmt::Formatter<W>) -> fmt::Result {
+        f.write_str(self.name())
     }
 }
 
@@ -179,9 +207,11 @@ impl fmt::Display for Place {
 impl fmt::Display for Fault {
     fn fmt<W: fmt::Write>(&self, f: &mut fmt::Formatter<W>) -> fmt::Result {
         let number = self.number();
-        let layer = self.layer_name();
-        let place = self.place;
-        let words = self.cause.words();
-        write!(f, "refusal {number} of the {layer}{place}: {words}")
+        let Fault {
+            cause,
+            layer,
+            place,
+        } = self;
+        write!(f, "refusal {number} of the {layer}{place}: {cause}")
     }
 }

@@ -5,7 +5,7 @@ ghost use Rattle.std.specs.Prelude.{◌≡◌};
 ghost use Rattle.kinds.specs.Maps.{refers, fits, bits_set, Next};
 
 // Word j, counted from 0, is a reference if bit j of the map is set, and a number otherwise.
-#[derive(Clone, Copy)]
+#[derive(Clone, Copy, PartialEq, Eq, Default, Debug)]
 pub struct Kind {
     pub size: u8,
     pub map: u32,

@@ -2,8 +2,10 @@
 use Rattle.fault.specs.Told.{Told, answered, refused}
 use Rattle.table.specs.declared.draft.Draft.{Draft}
 use Rattle.table.specs.Format.{Rows}
-use Rattle.table.specs.Filling.{rows_in}
+
+abbrev pub rows_drafted : Draft → Rows
+rows_drafted d = record { heap = d.heap; statics = d.statics; kinds = d.kinds.items; tasks = d.tasks.items }
 
 abbrev pub drafted : Told Draft → Told Rows
-drafted (answered d) = answered (rows_in d.table d.kinds d.tasks)
+drafted (answered d) = answered (rows_drafted d)
 drafted (refused e) = refused e

@@ -1,18 +1,20 @@
 // The lines of a table.
-ghost use Rattle.std.specs.Prelude.{◌≡◌, ℕ, ◌-◌, ◌^◌, ◌≤◌, min, length, IfOk};
+ghost use Rattle.std.specs.Prelude.{◌≡◌, ℕ, ◌-◌, ◌^◌, ◌≤◌, min, IfOk};
 ghost use Rattle.fault.specs.Told.{told};
 ghost use Rattle.table.specs.Checking.{Spot, Read, placed, number as read_number, consumer_low, consumer_high, one_line, more_lines, read_heap, read_static, read_kind, read_task};
-ghost use Rattle.table.specs.Places.{spot, counted};
+ghost use Rattle.table.specs.Places.{spot, listed};
+ghost use Rattle.arrayvec.specs.ArrayVec.{array_vec_len};
 
 use super::Reader;
 use crate::rows::{
     HeapRow, KindRow, MAX_HANDLES, MAX_LIFE, MAX_OBJECTS, MAX_PERIOD, MAX_SIZE, MAX_SPACE,
     MAX_TASKS, MAX_WORDS, StaticRow, TaskRow,
 };
+use arrayvec::ArrayVec;
 use fault::Fault;
 
 // A row that stands in a line.
-pub(crate) trait Row: Copy {
+pub(crate) trait Row: Copy + Default {
     ghost reads: { Spot → Read Self };
 
     // The numbers of its line, after the first word.
@@ -107,21 +109,19 @@ impl Reader<'_> {
         R::read(self)
     }
 
-    // Lines that begin with a word go to the front of `rows`, at most `room`; answers how many.
-    pub(crate) fn rows<R: Row>(
+    // Lines that begin with a word, as many as there is room for.
+    pub(crate) fn rows<R: Row, const N: usize>(
         &mut self,
         word: &[u8],
-        rows: &mut [R],
         room: usize,
-    ) -> Result<usize, Fault>
-        ensures answer { more_lines word.now R.Row.reads (min (length rows.old) room) (spot self.old) ≡ placed (counted (told result) rows.new) (spot self.new) }
-        ensures few { IfOk result (λ n. (n ≤ length rows.old) × (n ≤ room)) }
+    ) -> Result<ArrayVec<R, N>, Fault>
+        ensures answer { more_lines word.now R.Row.reads (min N room) (spot self.old) ≡ placed (listed (told result)) (spot self.new) }
+        ensures few { IfOk result (λ rows. array_vec_len rows ≤ room) }
     {
-        let mut n = 0;
-        while n < rows.len() && n < room && self.takes(word) {
-            rows[n] = R::read(self)?;
-            n += 1;
+        let mut rows = ArrayVec::new();
+        while rows.len() < room && !rows.is_full() && self.takes(word) {
+            rows.push(R::read(self)?);
         }
-        Ok(n)
+        Ok(rows)
     }
 }

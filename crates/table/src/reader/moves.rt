@@ -1,15 +1,22 @@
 // The moves of a reader within a line.
-ghost use Rattle.std.specs.Prelude.{◌≡◌, ℕ, ◌+◌, ◌≤◌, length, drop, if◌then◌else◌, slice_index};
+ghost use Rattle.std.specs.Prelude.{◌≡◌, ◌≢◌, ℕ, ◌+◌, ◌≤◌, length, drop, if◌then◌else◌, Some, OnOk, IfErr};
+ghost use Rattle.std.specs.List.{prefix_len};
 ghost use Rattle.fault.specs.Told.{told, number_of, refusal};
-ghost use Rattle.table.specs.Checking.{at, misread as misread_at, front, none, placed, number as read_number, leads, past_word, line_end};
-ghost use Rattle.table.specs.Lexing.{class_of};
+ghost use Rattle.table.specs.Checking.{at, misread as misread_at, inside, front, none, placed, number as read_number, leads, past_word, line_end};
+ghost use Rattle.table.specs.Lexing.{class_ahead};
 ghost use Rattle.table.specs.Places.{spot};
 
 use super::Reader;
-use crate::field::{Field, limited};
-use crate::lexer::{Class, classify, is_inside};
-use crate::misread::misread;
-use fault::{Cause, Fault};
+use crate::field::Field;
+use crate::lexer::{Class, is_inside};
+use fault::{Cause, Fault, Layer};
+
+// How many bytes stand before the first comma or line end.
+fn inside_len(text: &[u8]) -> usize
+    ensures { result ≡ prefix_len inside text.now }
+{
+    text.iter().take_while(|byte| is_inside(**byte)).count()
+}
 
 impl<'a> Reader<'a> {
     // At the first byte of a text.
@@ -35,14 +42,14 @@ impl<'a> Reader<'a> {
     pub(super) fn refuse(&self, cause: Cause) -> Fault
         ensures { refusal result ≡ misread_at (number_of cause) (spot self.now).line (spot self.now).column }
     {
-        misread(cause, self.line, self.column)
+        Fault::in_line(Layer::Text, cause, self.line, self.column)
     }
 
     // No such line may stand here.
     pub(crate) fn refuse_line(&self) -> Fault
         ensures { refusal result ≡ misread_at 2 (spot self.now).line 1 }
     {
-        misread(Cause::WrongLine, self.line, 1)
+        Fault::in_line(Layer::Text, Cause::WrongLine, self.line, 1)
     }
 
     // So many bytes on, in the same line.
@@ -55,15 +62,23 @@ impl<'a> Reader<'a> {
         self.column += count as u32;
     }
 
-    // What the next byte is; `Other` where nothing is left.
-    fn ahead(&self) -> Class
-        ensures { result ≡ class_of (slice_index (spot self.now).rest 0) }
+    // What the next byte is, if one is left.
+    fn ahead(&self) -> Option<Class>
+        ensures { result ≡ class_ahead (spot self.now).rest }
     {
-        if self.rest.is_empty() {
-            Class::Other
-        } else {
-            classify(self.rest[0])
+        self.rest.first().map(|byte| Class::from(*byte))
+    }
+
+    // Goes past the next byte, which has to be of this class.
+    fn expect(&mut self, class: Class) -> Result<(), Fault>
+        ensures there { OnOk result ((class_ahead (spot self.old).rest ≡ Some class) × (spot self.new ≡ at (drop 1 (spot self.old).rest) (spot self.old).line ((spot self.old).column + 1))) }
+        ensures missing { IfErr result (λ f. (class_ahead (spot self.old).rest ≢ Some class) × (refusal f ≡ misread_at 5 (spot self.old).line (spot self.old).column)) }
+    {
+        if self.ahead() != Some(class) {
+            return Err(self.refuse(Cause::WrongFieldCount));
         }
+        self.pass(1);
+        Ok(())
     }
 
     // The bytes up to the next comma or line end.
@@ -71,12 +86,8 @@ impl<'a> Reader<'a> {
         ensures part { result.part.now ≡ front (spot self.now).rest }
         ensures place { (result.line ≡ (spot self.now).line) × (result.column ≡ (spot self.now).column) }
     {
-        let mut end = 0;
-        while end < self.rest.len() && is_inside(self.rest[end]) {
-            end += 1;
-        }
         Field {
-            part: &self.rest[0..end],
+            part: &self.rest[..inside_len(self.rest)],
             line: self.line,
             column: self.column,
         }
@@ -86,13 +97,10 @@ impl<'a> Reader<'a> {
     pub(super) fn number(&mut self, low: u32, high: u32) -> Result<u32, Fault>
         ensures { read_number low high (spot self.old) ≡ placed (told result) (spot self.new) }
     {
-        let Class::Comma = self.ahead() else {
-            return Err(self.refuse(Cause::WrongFieldCount));
-        };
-        self.pass(1);
+        self.expect(Class::Comma)?;
         let field = self.peek();
         self.pass(field.part.len());
-        limited(field, low, high)
+        field.limited(low, high)
     }
 
     // Goes past the first word of a line, if it is this one.
@@ -100,22 +108,18 @@ impl<'a> Reader<'a> {
         ensures answer { result ≡ leads word.now (spot self.old) }
         ensures place { spot self.new ≡ (if result then past_word word.now (spot self.old) else spot self.old) }
     {
-        let field = self.peek();
-        if field.part == word {
+        let found = self.peek().part == word;
+        if found {
             self.pass(word.len());
-            return true;
         }
-        false
+        found
     }
 
     // The end of a line.
     pub(super) fn line_end(&mut self) -> Result<(), Fault>
         ensures { line_end (spot self.old) ≡ placed (told result) (spot self.new) }
     {
-        let Class::LineEnd = self.ahead() else {
-            return Err(self.refuse(Cause::WrongFieldCount));
-        };
-        self.pass(1);
+        self.expect(Class::LineEnd)?;
         self.line += 1;
         self.column = 1;
         Ok(())

@@ -1,12 +1,14 @@
 // A field of a line, and the number that it writes.
-ghost use Rattle.std.specs.Prelude.{◌≡◌, ℕ, ◌≤◌, length, if◌then◌else◌, Some, None};
+ghost use Rattle.std.specs.Prelude.{◌≡◌, ℕ, ◌≤◌, length, false, if◌then◌else◌, Some, None};
 ghost use Rattle.std.specs.Str.{all_ascii_digits};
+ghost use Rattle.std.specs.Range.{range_inclusive_start, range_inclusive_end, range_inclusive_exhausted};
 ghost use Rattle.fault.specs.Told.{told, number_of, refusal};
 ghost use Rattle.table.specs.Checking.{misread, is_number, shaped, digits_value, field_value};
 
 use crate::lexer::Class;
 use crate::rows::MAX_DIGITS;
 use fault::{Cause, Fault, Layer};
+use std::ops::RangeInclusive;
 
 // A part of the text, with the line and the column of its first byte.
 #[derive(Clone, Copy)]
@@ -62,14 +64,14 @@ impl Field<'_> {
     }
 
     // Its number, within limits.
-    pub(crate) fn limited(&self, low: u32, high: u32) -> Result<u32, Fault>
-        ensures { told result ≡ field_value low high self.now.line self.now.column self.now.part.now }
+    pub(crate) fn limited(&self, limits: RangeInclusive<u32>) -> Result<u32, Fault>
+        requires { range_inclusive_exhausted limits ≡ false }
+        ensures { told result ≡ field_value (range_inclusive_start limits) (range_inclusive_end limits) self.now.line self.now.column self.now.part.now }
     {
         let n = self.value().ok_or(self.refuse(Cause::NotANumber))?;
-        if (u64::from(low)..=u64::from(high)).contains(&n) {
-            Ok(n as u32)
-        } else {
-            Err(self.refuse(Cause::OutsideLimits))
-        }
+        u32::try_from(n)
+            .ok()
+            .filter(|n| limits.contains(n))
+            .ok_or(self.refuse(Cause::OutsideLimits))
     }
 }

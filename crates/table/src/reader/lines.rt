@@ -26,8 +26,8 @@ impl Row for HeapRow {
     ghost reads = { read_heap };
 
     fn read(reader: &mut Reader<'_>) -> Result<HeapRow, Fault> {
-        let space = reader.number(1, MAX_SPACE)?;
-        let handles = reader.number(1, MAX_HANDLES)?;
+        let space = reader.number(1..=MAX_SPACE)?;
+        let handles = reader.number(1..=MAX_HANDLES)?;
         reader.line_end()?;
         Ok(HeapRow { space, handles })
     }
@@ -37,8 +37,8 @@ impl Row for StaticRow {
     ghost reads = { read_static };
 
     fn read(reader: &mut Reader<'_>) -> Result<StaticRow, Fault> {
-        let words = reader.number(0, MAX_WORDS)?;
-        let objects = reader.number(0, MAX_OBJECTS)?;
+        let words = reader.number(0..=MAX_WORDS)?;
+        let objects = reader.number(0..=MAX_OBJECTS)?;
         reader.line_end()?;
         Ok(StaticRow { words, objects })
     }
@@ -48,8 +48,8 @@ impl Row for KindRow {
     ghost reads = { read_kind };
 
     fn read(reader: &mut Reader<'_>) -> Result<KindRow, Fault> {
-        let size = reader.number(1, MAX_SIZE)?;
-        let map = reader.number(0, largest_map(size))?;
+        let size = reader.number(1..=MAX_SIZE)?;
+        let map = reader.number(0..=largest_map(size))?;
         reader.line_end()?;
         Ok(KindRow { size, map })
     }
@@ -59,12 +59,12 @@ impl Row for TaskRow {
     ghost reads = { read_task };
 
     fn read(reader: &mut Reader<'_>) -> Result<TaskRow, Fault> {
-        let period = reader.number(1, MAX_PERIOD)?;
-        let deadline = reader.number(1, period)?;
-        let units = reader.number(1, deadline)?;
-        let words = reader.number(0, MAX_WORDS)?;
-        let objects = reader.number(0, MAX_OBJECTS)?;
-        let life = reader.number(0, MAX_LIFE)?;
+        let period = reader.number(1..=MAX_PERIOD)?;
+        let deadline = reader.number(1..=period)?;
+        let units = reader.number(1..=deadline)?;
+        let words = reader.number(0..=MAX_WORDS)?;
+        let objects = reader.number(0..=MAX_OBJECTS)?;
+        let life = reader.number(0..=MAX_LIFE)?;
         let consumer = reader.consumer(life)?;
         reader.line_end()?;
         Ok(TaskRow {
@@ -93,9 +93,9 @@ impl Reader<'_> {
         ensures { read_number (consumer_low life) (consumer_high life) (spot self.old) ≡ placed (told result) (spot self.new) }
     {
         if life == 0 {
-            self.number(1, MAX_TASKS as u32)
+            self.number(1..=MAX_TASKS as u32)
         } else {
-            self.number(0, 0)
+            self.number(0..=0)
         }
     }
 

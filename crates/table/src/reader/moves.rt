@@ -1,6 +1,7 @@
 // The moves of a reader within a line.
-ghost use Rattle.std.specs.Prelude.{◌≡◌, ◌≢◌, ℕ, ◌+◌, ◌≤◌, length, drop, if◌then◌else◌, Some, OnOk, IfErr};
+ghost use Rattle.std.specs.Prelude.{◌≡◌, ◌≢◌, ℕ, ◌+◌, ◌≤◌, length, drop, false, if◌then◌else◌, Some, OnOk, IfErr};
 ghost use Rattle.std.specs.List.{prefix_len};
+ghost use Rattle.std.specs.Range.{range_inclusive_start, range_inclusive_end, range_inclusive_exhausted};
 ghost use Rattle.fault.specs.Told.{told, number_of, refusal};
 ghost use Rattle.table.specs.Checking.{at, misread as misread_at, inside, front, none, placed, number as read_number, leads, past_word, line_end};
 ghost use Rattle.table.specs.Lexing.{class_ahead};
@@ -10,6 +11,7 @@ use super::Reader;
 use crate::field::Field;
 use crate::lexer::{Class, is_inside};
 use fault::{Cause, Fault, Layer};
+use std::ops::RangeInclusive;
 
 // How many bytes stand before the first comma or line end.
 fn inside_len(text: &[u8]) -> usize
@@ -94,13 +96,14 @@ impl<'a> Reader<'a> {
     }
 
     // A comma and a number within limits.
-    pub(super) fn number(&mut self, low: u32, high: u32) -> Result<u32, Fault>
-        ensures { read_number low high (spot self.old) ≡ placed (told result) (spot self.new) }
+    pub(super) fn number(&mut self, limits: RangeInclusive<u32>) -> Result<u32, Fault>
+        requires { range_inclusive_exhausted limits ≡ false }
+        ensures { read_number (range_inclusive_start limits) (range_inclusive_end limits) (spot self.old) ≡ placed (told result) (spot self.new) }
     {
         self.expect(Class::Comma)?;
         let field = self.peek();
         self.pass(field.part.len());
-        field.limited(low, high)
+        field.limited(limits)
     }
 
     // Goes past the first word of a line, if it is this one.

@@ -2,7 +2,7 @@
 ghost use Rattle.std.specs.Prelude.{◌≡◌, ℕ, ◌-◌, ◌^◌, ◌≤◌, min, IfOk};
 ghost use Rattle.fault.specs.Told.{told};
 ghost use Rattle.table.specs.Checking.{Spot, Read, placed, number as read_number, consumer_low, consumer_high, one_line, more_lines, read_heap, read_static, read_kind, read_task};
-ghost use Rattle.table.specs.Places.{spot, listed};
+ghost use Rattle.table.specs.Drafting.{listed};
 ghost use Rattle.arrayvec.specs.ArrayVec.{array_vec_len};
 
 use super::Reader;
@@ -19,7 +19,7 @@ pub(crate) trait Row: Copy + Default {
 
     // The numbers of its line, after the first word.
     fn read(reader: &mut Reader<'_>) -> Result<Self, Fault>
-        ensures { reads (spot reader.old) ≡ placed (told result) (spot reader.new) };
+        ensures { reads reader.old ≡ placed (told result) reader.new };
 }
 
 impl Row for HeapRow {
@@ -90,7 +90,7 @@ fn largest_map(size: u32) -> u32
 impl Reader<'_> {
     // Exactly one of life and consumer is 0.
     fn consumer(&mut self, life: u32) -> Result<u32, Fault>
-        ensures { read_number (consumer_low life) (consumer_high life) (spot self.old) ≡ placed (told result) (spot self.new) }
+        ensures { read_number (consumer_low life) (consumer_high life) self.old ≡ placed (told result) self.new }
     {
         if life == 0 {
             self.number(1..=MAX_TASKS as u32)
@@ -101,7 +101,7 @@ impl Reader<'_> {
 
     // The one line that begins with this word.
     pub(crate) fn line<R: Row>(&mut self, word: &[u8]) -> Result<R, Fault>
-        ensures { one_line word.now R.Row.reads (spot self.old) ≡ placed (told result) (spot self.new) }
+        ensures { one_line word.now R.Row.reads self.old ≡ placed (told result) self.new }
     {
         if !self.takes(word) {
             return Err(self.refuse_line());
@@ -115,7 +115,7 @@ impl Reader<'_> {
         word: &[u8],
         room: usize,
     ) -> Result<ArrayVec<R, N>, Fault>
-        ensures answer { more_lines word.now R.Row.reads (min N room) (spot self.old) ≡ placed (listed (told result)) (spot self.new) }
+        ensures answer { more_lines word.now R.Row.reads (min N room) self.old ≡ placed (listed (told result)) self.new }
         ensures few { IfOk result (λ rows. array_vec_len rows ≤ room) }
     {
         let mut rows = ArrayVec::new();

@@ -41,6 +41,7 @@ impl Heap {
     }
 
     // A word of an object is wanted, as a reference or as a number.
+    #[tactic(auto, unfolding(crate::specs::Calls::on_object))]
     fn want(&self, object: u16, word: u16, reference: bool) -> Result<(), Fault>
         ensures { MatchResult result
             (λ _. on_object (view self.now) object word reference ≡ 0)
@@ -192,6 +193,7 @@ impl Heap {
     }
 
     // The handle that the reference at a place names.
+    #[tactic(auto, unfolding(crate::specs::Calls::on_reading))]
     fn reference_at<R: Readable>(&self, memory: &R, place: usize) -> Result<u16, Fault>
         ensures { MatchResult result
             (λ x. (on_reading self.now.table (R.Readable.words memory.now) place ≡ 0)

@@ -147,6 +147,7 @@ impl Heap {
     }
 
     // The next word of the object that moves, and the handle that it names, 0 for none and for a number.
+    #[tactic(auto, unfolding(crate::specs::Steps::on_next))]
     fn next_word<R: Readable>(&self, memory: &R) -> Result<(u32, u16), Fault>
         ensures { MatchResult result
             (λ p. (on_next self.now (R.Readable.words memory.now) ≡ 0)
@@ -215,6 +216,7 @@ impl Heap {
 
     // One step of the collector, by its phase, the object that moves and the chain of marked handles. The last step of a collection
     // answers its steps, objects and words; any other answers absent.
+    #[tactic(auto, using(crate::proofs::Small::small_step))]
     pub fn step<M: Writable>(&mut self, memory: &mut M) -> Result<Option<Report>, Fault>
         ensures answer { tells of_step result ≡ (step self.old (M.Readable.words memory.old)).told }
         ensures heap { self.new ≡ (step self.old (M.Readable.words memory.old)).heap }

@@ -133,9 +133,8 @@ impl Table {
     pub(crate) fn settle(&mut self, number: u16, place: u32)
         ensures { self.new ≡ settle self.old number place }
     {
-        let kind = self.handle(number as usize).kind;
         if let Some(handle) = lent(&mut self.handles, number) {
-            handle.name_object(kind, place);
+            handle.name_object(handle.kind, place);
         }
     }
 

@@ -49,7 +49,7 @@ pub struct Limits {
 }
 
 // The limits, and the kinds, which are numbered from 1.
-#[derive(Drop)]
+#[derive(Default, Drop)]
 struct Measures {
     limits: Limits,
     kinds: ArrayVec<Kind, 32>,

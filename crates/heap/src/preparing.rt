@@ -1,8 +1,9 @@
 // A bare heap, and how it is prepared.
-ghost use Rattle.std.specs.Prelude.{◌≡◌, true, false, MatchOption};
+ghost use Rattle.std.specs.Prelude.{◌≡◌, true, false, MatchResult};
 ghost use Rattle.std.specs.List.{list_all};
+ghost use Rattle.fault.specs.Told.{refusal};
 ghost use Rattle.kinds.specs.Maps.{fits};
-ghost use Rattle.heap.specs.Answers.{of_unit, tells};
+ghost use Rattle.heap.specs.Answers.{of_unit, tells, in_heap};
 ghost use Rattle.heap.specs.Start.{limits_fit, measures_fit, spare_row, spare_table, bare, fresh, preparing as prepared_by};
 
 use crate::{Cycle, Handle, Heap, Limits, Measures, Table};
@@ -30,17 +31,19 @@ fn all_legal(kinds: &[Kind]) -> bool
 }
 
 impl Measures {
-    // Limits and kinds, if they are within their own limits.
+    // Limits and kinds that are within their own limits.
     #[tactic(auto, using(crate::proofs::Begins::fit_each))]
-    fn new(limits: Limits, kinds: &[Kind]) -> Option<Measures>
-        ensures { MatchOption result (measures_fit limits kinds.now ≡ false)
-            (λ m. (measures_fit limits kinds.now ≡ true) × (m.limits ≡ limits) × (m.kinds.items ≡ kinds.now)) }
+    fn new(limits: Limits, kinds: &[Kind]) -> Result<Measures, Fault>
+        ensures { MatchResult result
+            (λ m. (measures_fit limits kinds.now ≡ true) × (m.limits ≡ limits) × (m.kinds.items ≡ kinds.now))
+            (λ e. (measures_fit limits kinds.now ≡ false) × (refusal e ≡ in_heap 11)) }
     {
+        let wrong = Fault::nowhere(Layer::Heap, Cause::WrongMeasures);
         if !limits.is_legal() || kinds.is_empty() || !all_legal(kinds) {
-            return None;
+            return Err(wrong);
         }
-        let kinds = ArrayVec::try_from(kinds).ok()?;
-        Some(Measures { limits, kinds })
+        let kinds = ArrayVec::try_from(kinds).map_err(|_| wrong)?;
+        Ok(Measures { limits, kinds })
     }
 }
 
@@ -79,10 +82,7 @@ impl Heap {
     {
         Heap {
             prepared: false,
-            measures: Measures {
-                limits: Limits::default(),
-                kinds: ArrayVec::new(),
-            },
+            measures: Measures::default(),
             table: Table {
                 handles: [Handle::default(); 257],
                 spare: 0,
@@ -119,10 +119,7 @@ impl Heap {
         ensures heap { self.new ≡ (prepared_by self.old (M.Readable.words memory.old) limits kinds.now).heap }
         ensures words { M.Readable.words memory.new ≡ (prepared_by self.old (M.Readable.words memory.old) limits kinds.now).memory }
     {
-        let measures = Measures::new(limits, kinds).ok_or(Fault::nowhere(
-            Layer::Heap,
-            Cause::WrongMeasures,
-        ))?;
+        let measures = Measures::new(limits, kinds)?;
         *self = Heap::bare();
         zero(memory, 2 * limits.space as usize)?;
         *self = Heap::fresh(measures);

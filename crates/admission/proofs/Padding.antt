@@ -12,13 +12,6 @@ fill_next size d v xs i l h =
     let e = append_assoc xs (v ∷ []) (drop (i + 1) (replicate size d)) in
     cc
 
--- a copy of the first i of a list, one more
-pub copy_next : {X : Type 0} (size : ℕ) (d v : X) (xs ys : List X) (i : ℕ) → ys ≡ take i xs ++ drop i (replicate size d) → i < length xs → length xs ≤ size → v ≡ get_or xs i d → set ys i v ≡ take (i + 1) xs ++ drop (i + 1) (replicate size d)
-copy_next size d v xs ys i e h l g =
-    let a = fill_next size d v (take i xs) i (length-take-le i xs (omega arith)) (omega arith) in
-    let b = take_more xs i d h in
-    cc
-
 pub length_padded : {X : Type 0} (size : ℕ) (d : X) (xs : List X) → length xs ≤ size → length (padded size d xs) ≡ size
 length_padded size d xs h =
     let a = length-append xs (drop (length xs) (replicate size d)) in

@@ -13,12 +13,6 @@ use Rattle.admission.specs.Admission.{admission, weighed, figured, figures_of, p
 use Rattle.admission.proofs.Padding.{take_padded}
 use Rattle.admission.proofs.Ranking.{length_ranked}
 
-pub part_tasks : (rows : List TaskRow) (xs : List Task) → xs ≡ padded 16 no_task (ranked rows) → take (length rows - 0) xs ≡ ranked rows
-part_tasks rows xs e =
-    let l = length_ranked rows in
-    let z : length rows - 0 ≡ length (ranked rows) = omega arith in
-    ap (λ n. take n xs) z ∙ ap (take (length (ranked rows))) e ∙ take_padded 16 no_task (ranked rows)
-
 -- the bounds of a part of an array of tasks
 pub weighed_part : (rows : Rows) (ts : List Task) (v : Told Bounds) → ts ≡ ranked rows.tasks → v ≡ weighed rows.heap rows.statics (length rows.kinds) ts → figured rows (ranked rows.tasks) v ≡ admission rows
 unfolding admission

@@ -48,8 +48,3 @@ pub time_all : (ts : List Task) (times : List ℕ) (i : ℕ) → i ≡ length ts
 time_all ts times i e inv =
     let a : responses (take i ts) (drop i ts) ≡ Ok [] = ap (responses (take i ts)) (drop_all i ts (omega arith)) in
     sym inv ∙ ap (after (take i times)) a ∙ ap Ok (append-nil (take i times))
-
-pub few_take : (ts : List Task) (i : ℕ) → i ≤ length ts → Few ts → Few (take i ts)
-few_take ts i h f =
-    let l = length-take-le i ts h in
-    (omega (arith, f.0), λ k m. subst Sized (sym (get_or-take i ts k no_task (omega arith))) (f.1 k (omega arith)))

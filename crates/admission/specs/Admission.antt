@@ -34,10 +34,6 @@ responses best (t ∷ ts) = timed t.number (least (done_in t.units best) t.deadl
 abbrev pub padded : {X : Type 0} → ℕ → X → List X → List X
 padded size d xs = xs ++ drop (length xs) (replicate size d)
 
-abbrev pub timetable : Result (List ℕ) ℕ → Result (List ℕ) ℕ
-timetable (Ok rs) = Ok (padded 16 0 rs)
-timetable (Err n) = Err n
-
 -- what is alive at most: what is static, and for each task the jobs of its life
 abbrev pub live : Share → ℕ → List Task → ℕ
 live share statics ts = statics + sum_by (λ t. t.life * part_of share t) ts
@@ -93,6 +89,11 @@ flipped heap statics ts rs (Some f) =
 -- 7 at its line for a task with no response time: the heap line, the static line and the kinds come first
 abbrev pub misses_deadline : ℕ → Refusal
 misses_deadline line = record { number = 7; layer = in_admission; place = line; column = 0 }
+
+-- the response times in an array, or the refusal of the first task that has none
+abbrev pub timetabled : ℕ → Result (List ℕ) ℕ → Told (List ℕ)
+timetabled kinds (Ok rs) = answered (padded 16 0 rs)
+timetabled kinds (Err n) = refused (misses_deadline (2 + kinds + n))
 
 unfoldable pub responded : HeapRow → StaticRow → ℕ → List Task → Result (List ℕ) ℕ → Told Bounds
 responded heap statics kinds ts (Err n) = refused (misses_deadline (2 + kinds + n))

@@ -1,6 +1,7 @@
 // From the rows of a table to the longest period of the collector, or the bound that breaks.
 #![tactic(auto)]
 
+mod accepted;
 mod bounds;
 mod figures;
 mod plan;

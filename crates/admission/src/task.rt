@@ -1,5 +1,8 @@
+ghost use Rattle.std.specs.Prelude.{◌≡◌};
+ghost use Rattle.admission.specs.Demand.{part_of};
+
 // A task as admission reckons with it: its number in the table, its life worked out, and its consumer, 0 for none.
-#[derive(Clone, Copy, PartialEq, Eq, Debug)]
+#[derive(Clone, Copy, PartialEq, Eq, Default, Debug)]
 pub struct Task {
     pub number: u32,
     pub period: u32,
@@ -27,4 +30,15 @@ pub const NO_TASK: Task = Task {
 pub enum Share {
     Words,
     Objects,
+}
+
+impl Share {
+    pub(crate) fn of(self, t: &Task) -> u32
+        ensures { result ≡ part_of self t.now }
+    {
+        match self {
+            Share::Words => t.words,
+            Share::Objects => t.objects,
+        }
+    }
 }

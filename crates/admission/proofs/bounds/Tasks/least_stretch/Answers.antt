@@ -1,0 +1,28 @@
+use Rattle.std.proofs.Common.{◌≡◌, ◌-◌, get_or, sum_by, ap, ◌∙◌, arith}
+use Rattle.std.proofs.lemmas.List.Sums.{sum_by_more}
+use Rattle.std.proofs.lemmas.List.{take_all}
+use Rattle.admission.specs.Demand.{no_task}
+use Rattle.admission.proofs.Rising.{parts, taken_by, taken_small, no_room, first_stretch, stretch_from}
+use Rattle.admission.proofs.bounds.Tasks.least_stretch.Goals as goal
+
+pub loop-t-preserved : goal.loop-t-preserved
+loop-t-preserved c =
+    let ts = c.args.self.now.list.now in
+    let i = c.loop-t.t-index in
+    let m = sum_by_more taken_by ts i no_task c.loop-t-test.true in
+    let s = taken_small (get_or ts i no_task) (c.args.self.now.few.1 i c.loop-t-test.true) in
+    (omega arith, omega arith)
+
+pub returns-then-taken-ge-PARTS : goal.returns-then-taken-ge-PARTS
+returns-then-taken-ge-PARTS c k h =
+    let ts = c.args.self.now.list.now in
+    let e : c.loop-t.taken ≡ sum_by taken_by ts = c.loop-t.invariant.0 ∙ ap (sum_by taken_by) (take_all c.loop-t.t-index ts c.loop-t-test.false) in
+    no_room c.args.own k c.loop-t.taken ts c.args.self.now.few.1 e (omega arith) (omega arith) h
+
+pub returns : goal.returns
+returns c =
+    let ts = c.args.self.now.list.now in
+    let e : c.loop-t.taken ≡ sum_by taken_by ts = c.loop-t.invariant.0 ∙ ap (sum_by taken_by) (take_all c.loop-t.t-index ts c.loop-t-test.false) in (
+      stretch_from c.args.own (parts - c.loop-t.taken) c.requires.some (omega arith),
+      λ k h. first_stretch c.args.own k c.loop-t.taken ts c.args.self.now.few.1 e (omega arith) h,
+    )

@@ -12,13 +12,6 @@ fill_next size d v xs i l h =
     let e = append_assoc xs (v ∷ []) (drop (i + 1) (replicate size d)) in
     cc
 
-pub length_padded : {X : Type 0} (size : ℕ) (d : X) (xs : List X) → length xs ≤ size → length (padded size d xs) ≡ size
-length_padded size d xs h =
-    let a = length-append xs (drop (length xs) (replicate size d)) in
-    let b = length-drop (length xs) (replicate size d) in
-    let c = length-replicate size d in
-    omega arith
-
 pub take_padded : {X : Type 0} (size : ℕ) (d : X) (xs : List X) → take (length xs) (padded size d xs) ≡ xs
 take_padded size d xs = take_at xs (drop (length xs) (replicate size d)) (length xs) refl
 

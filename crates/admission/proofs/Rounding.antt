@@ -16,9 +16,6 @@ up_least p q k h l =
     let d : (p + (q - 1)) / q < k + 1 = (div-lt_iff_lt-mul h).1 b in
     omega arith
 
-pub up_law : (p q : ℕ) → 1 ≤ q → RoundsUp p q (up p q)
-up_law p q h = record { covers = up_covers p q h; least = λ k l. up_least p q k h l }
-
 pub up_small : (p q : ℕ) → 1 ≤ q → up p q ≤ p
 up_small p q h =
     let m : p * 1 ≤ p * q = mul-le-mul_left p h in

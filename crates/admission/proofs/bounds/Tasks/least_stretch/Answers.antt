@@ -1,17 +1,7 @@
-use Rattle.std.proofs.Common.{◌≡◌, ◌-◌, get_or, sum_by, ap, ◌∙◌, arith}
-use Rattle.std.proofs.lemmas.List.Sums.{sum_by_more}
+use Rattle.std.proofs.Common.{◌≡◌, ◌-◌, sum_by, ap, ◌∙◌, arith}
 use Rattle.std.proofs.lemmas.List.{take_all}
-use Rattle.admission.specs.Demand.{no_task}
-use Rattle.admission.proofs.Rising.{parts, taken_by, taken_small, no_room, first_stretch, stretch_from}
+use Rattle.admission.proofs.Rising.{parts, taken_by, no_room, first_stretch, stretch_from}
 use Rattle.admission.proofs.bounds.Tasks.least_stretch.Goals as goal
-
-pub loop-t-preserved : goal.loop-t-preserved
-loop-t-preserved c =
-    let ts = c.args.self.now.list.now in
-    let i = c.loop-t.t-index in
-    let m = sum_by_more taken_by ts i no_task c.loop-t-test.true in
-    let s = taken_small (get_or ts i no_task) (c.args.self.now.few.1 i c.loop-t-test.true) in
-    (omega arith, omega arith)
 
 pub returns-then-taken-ge-PARTS : goal.returns-then-taken-ge-PARTS
 returns-then-taken-ge-PARTS c k h =

@@ -16,11 +16,8 @@ loop-bad-preserved c =
       λ j l h t. both_ways _ (sym c.if-fits.ensures) (fits_fall m ts _ j c.args.self.now.tasks.few.1 l t),
     )
 
-pub returns : goal.returns
-returns c =
+pub returns-clause-value : goal.returns-clause-value
+returns-clause-value c =
     let v = c.loop-bad.invariant in
-    record {
-      value = largest_is (fits c.args.self.now.room c.args.self.now.tasks.list.now) c.args.least 1000000 c.loop-bad.good v.0 (omega (arith, v.1, v.2)) v.3
-          (λ j i u t. v.4 j (omega arith) u t);
-      bound = omega (arith, v.1, v.2);
-    }
+    largest_is (fits c.args.self.now.room c.args.self.now.tasks.list.now) c.args.least 1000000 c.loop-bad.good v.0 (omega (arith, v.1, v.2)) v.3
+    (λ j i u t. v.4 j (omega arith) u t)

@@ -8,13 +8,12 @@ use crate::task::{Share, Task};
 
 // The least whole number not below p / q.
 pub(crate) fn up(p: u32, q: u32) -> u32
-    requires some { 1 ≤ q }
-    requires small { (q ≤ 2000000) × (p ≤ 2000000) }
+    requires { 1 ≤ q }
     ensures value { result ≡ lifted p q }
     ensures law { RoundsUp p q result }
     ensures small { result ≤ p }
 {
-    (p + (q - 1)) / q
+    p.div_ceil(q)
 }
 
 // One in this many parts of a tick, for shares of the time that are rounded down.
@@ -54,7 +53,7 @@ impl<'a> Tasks<'a> {
             return None;
         }
         let left = PARTS - taken;
-        Some((own as u64 * PARTS + (left - 1)) / left)
+        Some((own as u64 * PARTS).div_ceil(left))
     }
 
     // The least stretch of 1 to `bound` ticks in which `own` units and the jobs of these tasks are done. Each turn goes from a stretch that is too

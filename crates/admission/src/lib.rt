@@ -13,4 +13,4 @@ mod work;
 pub use figures::Figures;
 pub use plan::Plan;
 pub use plan::makes::admit;
-pub use task::Task;
+pub use task::{Scheduled, Task};

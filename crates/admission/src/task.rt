@@ -25,6 +25,18 @@ pub const NO_TASK: Task = Task {
     consumer: 0,
 };
 
+// A task, and the response time of its jobs.
+#[derive(Clone, Copy, PartialEq, Eq, Debug)]
+pub struct Scheduled {
+    pub task: Task,
+    pub response: u32,
+}
+
+pub const UNSCHEDULED: Scheduled = Scheduled {
+    task: NO_TASK,
+    response: 0,
+};
+
 // What a job may allocate: words, or objects.
 #[derive(Clone, Copy, PartialEq, Eq, Debug)]
 pub enum Share {

@@ -1,24 +1,24 @@
 // From rows to figures, or the first bound that breaks.
 ghost use Rattle.std.specs.Prelude.{◌≡◌, ◌+◌, ◌≤◌, [], length, IfOk};
 ghost use Rattle.fault.specs.Told.{told, refusal};
-ghost use Rattle.admission.specs.Admission.{responses, timetabled, padded, room_for, weighed, admission, misses_deadline};
+ghost use Rattle.admission.specs.Admission.{responses, timetabled, padded, no_kind, room_for, weighed, admission, misses_deadline};
 
 use crate::accepted::Accepted;
 use crate::bounds::Tasks;
 use crate::figures::{Bounds, Figures, Room};
 use crate::room::Shared;
-use crate::task::{NO_TASK, Share, Task};
+use crate::task::{Scheduled, Share, Task, UNSCHEDULED};
 use fault::{Cause, Fault, Layer};
-use table::rows::{MAX_KINDS, MAX_PERIOD, MAX_TASKS, NO_KIND};
+use table::rows::{KindRow, MAX_KINDS, MAX_PERIOD, MAX_TASKS, NO_KIND};
 
-// A list at the front of an array.
-fn padded<T: Copy, const N: usize>(items: &[T], blank: T) -> [T; N]
-    requires { length items.now ≤ N }
-    ensures { result ≡ padded N blank items.now }
+// The kinds at the front of an array.
+fn all_kinds(kinds: &[KindRow]) -> [KindRow; MAX_KINDS]
+    requires { length kinds.now ≤ 32 }
+    ensures { result ≡ padded 32 no_kind kinds.now }
 {
-    let mut array = [blank; N];
-    array[..items.len()].copy_from_slice(items);
-    array
+    let mut all = [NO_KIND; MAX_KINDS];
+    all[..kinds.len()].copy_from_slice(kinds);
+    all
 }
 
 impl<'a> Accepted<'a> {
@@ -31,18 +31,22 @@ impl<'a> Accepted<'a> {
         Fault::in_line(Layer::Admission, Cause::MissesDeadline, line, 0)
     }
 
-    // The response time of each task; the first that has none is refused.
-    fn response_times(&self, tasks: &Tasks) -> Result<[u32; MAX_TASKS], Fault>
-        ensures { told result ≡ timetabled (length self.now.kinds.now) (responses [] tasks.now.list.now) }
+    // Each task with its response time; the first that has none is refused.
+    fn schedule(&self, tasks: &Tasks) -> Result<[Scheduled; MAX_TASKS], Fault>
+        ensures { told result ≡ timetabled (length self.now.kinds.now) tasks.now.list.now (responses [] tasks.now.list.now) }
     {
-        let mut times = [0; MAX_TASKS];
+        let mut scheduled = [UNSCHEDULED; MAX_TASKS];
         for (i, task) in tasks.list.iter().enumerate() {
-            times[i] = tasks
+            let response = tasks
                 .best(i)
                 .settle(task.units, task.deadline)
                 .ok_or(self.misses(task))?;
+            scheduled[i] = Scheduled {
+                task: *task,
+                response,
+            };
         }
-        Ok(times)
+        Ok(scheduled)
     }
 
     // What the heap has room for beside these tasks, once it is known how late a flip can be.
@@ -69,7 +73,7 @@ impl<'a> Accepted<'a> {
         ensures words { IfOk result (λ b. (b.room.live_words ≤ self.now.heap.space) × (b.room.space ≡ self.now.heap.space)) }
         ensures objects { IfOk result (λ b. (b.room.live_objects ≤ self.now.heap.handles) × (b.room.handles ≡ self.now.heap.handles)) }
     {
-        let responses = self.response_times(tasks)?;
+        let scheduled = self.schedule(tasks)?;
         let overload = Fault::nowhere(Layer::Admission, Cause::CollectorOverload);
         let lateness = tasks.settle(1, MAX_PERIOD).ok_or(overload)?;
         let shared = self.room_for(tasks, lateness);
@@ -81,7 +85,7 @@ impl<'a> Accepted<'a> {
             return Err(Fault::nowhere(Layer::Admission, Cause::TooFewHandles));
         }
         Ok(Bounds {
-            responses,
+            tasks: scheduled,
             room: shared.room,
             span,
             period: shared.longest(span),
@@ -92,21 +96,20 @@ impl<'a> Accepted<'a> {
     pub(crate) fn figures(&self) -> Result<Figures, Fault>
         ensures { told result ≡ admission (record { heap = self.now.heap; statics = self.now.statics; kinds = self.now.kinds.now; tasks = self.now.tasks.now }) }
     {
-        let tasks = self.rank_tasks();
+        let ranked = self.rank_tasks();
         let Bounds {
-            responses,
+            tasks,
             room,
             span,
             period,
-        } = self.weigh(&Tasks { list: &tasks })?;
+        } = self.weigh(&Tasks { list: &ranked })?;
         Ok(Figures {
             heap: self.heap,
             statics: self.statics,
-            kinds: padded(self.kinds, NO_KIND),
+            kinds: all_kinds(self.kinds),
             kind_count: self.kinds.len() as u32,
-            tasks: padded(&tasks, NO_TASK),
+            tasks,
             task_count: self.tasks.len() as u32,
-            responses,
             live_words: room.live_words as u32,
             live_objects: room.live_objects as u32,
             steps: room.steps() as u32,

@@ -8,7 +8,7 @@ ghost use Rattle.admission.specs.Admitted.{admitted, done, planned};
 use super::Plan;
 use crate::accepted::Accepted;
 use crate::figures::Figures;
-use crate::task::NO_TASK;
+use crate::task::UNSCHEDULED;
 use fault::Fault;
 use table::rows::{HeapRow, KindRow, MAX_KINDS, MAX_TASKS, NO_KIND, StaticRow, TaskRow};
 use table::{Table, read};
@@ -24,9 +24,8 @@ static BLANK: Figures = Figures {
     },
     kinds: [NO_KIND; MAX_KINDS],
     kind_count: 0,
-    tasks: [NO_TASK; MAX_TASKS],
+    tasks: [UNSCHEDULED; MAX_TASKS],
     task_count: 0,
-    responses: [0; MAX_TASKS],
     live_words: 0,
     live_objects: 0,
     steps: 0,

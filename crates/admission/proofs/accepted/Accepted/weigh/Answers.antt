@@ -7,11 +7,11 @@ use Rattle.admission.specs.declared.figures.Bounds.{Bounds}
 use Rattle.admission.proofs.Verdicts.{same_bounds, not_found, timed_ok, timed_err, says_7, says_8_flip, says_8_whole, says_9, says_10, says_plan}
 use Rattle.admission.proofs.accepted.Accepted.weigh.Goals as goal
 
-pub returns-in_err-responses-clause-value : goal.returns-in_err-responses-clause-value
-returns-in_err-responses-clause-value c =
+pub returns-in_err-scheduled-clause-value : goal.returns-in_err-scheduled-clause-value
+returns-in_err-scheduled-clause-value c =
     let a = c.args.self.now in
     let ts = c.args.tasks.now.list.now in
-    let t = timed_err (length a.kinds.now) (responses [] ts) _ c.in_err-responses.ensures in
+    let t = timed_err (length a.kinds.now) ts (responses [] ts) _ c.in_err-scheduled.ensures in
     let p = err_from_is_err_and c.from_residual.result c.from_residual.ensures.1 in
     rw (p.1, p.2) (ap refused t.2 ∙ sym (says_7 a.heap a.statics (length a.kinds.now) ts t.0 t.1))
 
@@ -19,7 +19,7 @@ pub returns-in_err-lateness-clause-value : goal.returns-in_err-lateness-clause-v
 returns-in_err-lateness-clause-value c =
     let a = c.args.self.now in
     let ts = c.args.tasks.now.list.now in
-    let t = timed_ok (length a.kinds.now) (responses [] ts) _ c.in_ok-responses.ensures in
+    let t = timed_ok (length a.kinds.now) ts (responses [] ts) _ c.in_ok-scheduled.ensures in
     let o = not_found c.settle.result c.nowhere-overload.result c.in_err-lateness.field-0.0 c.in_err-lateness.ensures.value in
     let p = err_from_is_err_and c.from_residual-in_err-lateness.result c.from_residual-in_err-lateness.ensures.1 in
     rw (p.1, p.2, ← o.1)
@@ -29,7 +29,7 @@ pub returns-in_err-span-clause-value : goal.returns-in_err-span-clause-value
 returns-in_err-span-clause-value c =
     let a = c.args.self.now in
     let ts = c.args.tasks.now.list.now in
-    let t = timed_ok (length a.kinds.now) (responses [] ts) _ c.in_ok-responses.ensures in
+    let t = timed_ok (length a.kinds.now) ts (responses [] ts) _ c.in_ok-scheduled.ensures in
     let late = sym c.in_ok-lateness.ensures.ok_part ∙ c.settle.ensures.value in
     let m = c.room_for-shared.result.room in
     let o = not_found c.span.result c.nowhere-overload.result c.in_err-span.field-0.0 c.in_err-span.ensures.value in
@@ -43,7 +43,7 @@ pub returns-then-not-words_fit-clause-value : goal.returns-then-not-words_fit-cl
 returns-then-not-words_fit-clause-value c =
     let a = c.args.self.now in
     let ts = c.args.tasks.now.list.now in
-    let t = timed_ok (length a.kinds.now) (responses [] ts) _ c.in_ok-responses.ensures in
+    let t = timed_ok (length a.kinds.now) ts (responses [] ts) _ c.in_ok-scheduled.ensures in
     let late = sym c.in_ok-lateness.ensures.ok_part ∙ c.settle.ensures.value in
     let m = c.room_for-shared.result.room in
     let whole = sym c.in_ok-span.ensures.ok_part ∙ c.span.ensures.value ∙ ap (λ l. least (done_in (steps_of m) l) 1000000) c.room_for-shared.ensures.tasks in
@@ -56,7 +56,7 @@ pub returns-then-not-handles_fit-clause-value : goal.returns-then-not-handles_fi
 returns-then-not-handles_fit-clause-value c =
     let a = c.args.self.now in
     let ts = c.args.tasks.now.list.now in
-    let t = timed_ok (length a.kinds.now) (responses [] ts) _ c.in_ok-responses.ensures in
+    let t = timed_ok (length a.kinds.now) ts (responses [] ts) _ c.in_ok-scheduled.ensures in
     let late = sym c.in_ok-lateness.ensures.ok_part ∙ c.settle.ensures.value in
     let m = c.room_for-shared.result.room in
     let whole = sym c.in_ok-span.ensures.ok_part ∙ c.span.ensures.value ∙ ap (λ l. least (done_in (steps_of m) l) 1000000) c.room_for-shared.ensures.tasks in
@@ -70,7 +70,7 @@ pub returns-clause-value : goal.returns-clause-value
 returns-clause-value c =
     let a = c.args.self.now in
     let ts = c.args.tasks.now.list.now in
-    let t = timed_ok (length a.kinds.now) (responses [] ts) _ c.in_ok-responses.ensures in
+    let t = timed_ok (length a.kinds.now) ts (responses [] ts) _ c.in_ok-scheduled.ensures in
     let late = sym c.in_ok-lateness.ensures.ok_part ∙ c.settle.ensures.value in
     let m = c.room_for-shared.result.room in
     let whole = sym c.in_ok-span.ensures.ok_part ∙ c.span.ensures.value ∙ ap (λ l. least (done_in (steps_of m) l) 1000000) c.room_for-shared.ensures.tasks in
@@ -79,5 +79,5 @@ returns-clause-value c =
     let words = c.if-not-words_fit.ensures ∙ ap (λ l. words_fit m l q) e in
     let handles = c.if-not-handles_fit.ensures ∙ ap (λ l. handles_fit m l q) e in
     let longest = c.longest.ensures.value ∙ ap (λ l. largest (fits m l) q 1000000) e in
-    ap (λ (b : Bounds). answered b) (same_bounds c.in_ok-responses.responses t.2 longest)
+    ap (λ (b : Bounds). answered b) (same_bounds c.in_ok-scheduled.scheduled t.2 longest)
     ∙ sym (says_plan a.heap a.statics (length a.kinds.now) ts t.0 c.in_ok-lateness.lateness m t.1 late c.room_for-shared.ensures.room q whole words handles)

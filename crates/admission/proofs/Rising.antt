@@ -1,14 +1,12 @@
 -- What tasks ask for rises with the stretch, and takes at least their share of it.
-use Rattle.std.proofs.Common.{◌≡◌, ℕ, suc, ◌+◌, ◌-◌, ◌*◌, ◌/◌, ◌<◌, ◌≤◌, List, [], ◌∷◌, length, get_or, take, sum_by, ap, ◌∙◌, inl, inr, le_trans, le_refl, mul-le-mul_right, mul_assoc, mul_comm, add-mul, mul-le-mul, mul-le-mul_left, zero-mul, mul-add, div-le_self, div-mul-le_self, arith}
+use Rattle.std.proofs.Common.{◌≡◌, ℕ, suc, ◌+◌, ◌-◌, ◌*◌, ◌/◌, ◌<◌, ◌≤◌, List, [], ◌∷◌, length, get_or, take, sum_by, ap, ◌∙◌, inl, inr, le_refl, mul-le-mul_right, mul_assoc, mul_comm, add-mul, mul-le-mul_left, zero-mul, mul-add, div-mul-le_self, arith}
 use native.Mathlib.Nat.{mul-sub}
 use Rattle.std.proofs.lemmas.List.Sums.{sum_by-cons}
 use Rattle.std.proofs.lemmas.List.{take_all}
 use Rattle.std.proofs.lemmas.Bool.{cases_lt}
 use Rattle.admission.specs.declared.task.Task.{Task}
-use Rattle.admission.specs.declared.task.Share.{Share}
-use Rattle.admission.specs.declared.task.Share.TheVariants.{Words, Objects}
-use Rattle.admission.specs.Demand.{up, asked, demand, load, units_of, part_of, DoneIn, Least, Sized, no_task}
-use Rattle.admission.proofs.Rounding.{up_covers, up_rises, up_least, up_small}
+use Rattle.admission.specs.Demand.{up, asked, demand, load, units_of, DoneIn, Least, Sized, no_task}
+use Rattle.admission.proofs.Rounding.{up_covers, up_rises, up_least}
 
 abbrev pub EachSized : List Task → Type 0
 EachSized ts = (k : ℕ) → k < length ts → Sized (get_or ts k no_task)

@@ -1,7 +1,7 @@
 -- Division that rounds up.
 use Rattle.std.proofs.Common.{◌≡◌, ℕ, ◌+◌, ◌-◌, ◌*◌, ◌/◌, ◌%◌, ◌<◌, ◌≤◌, min, lt_of_mul-lt-mul_right, le_trans, mod-lt, div-lt_iff_lt-mul, add-mul, mul-le-mul_left, one-mul, div-add-mod', mul-one, arith}
 use Rattle.std.proofs.lemmas.Grind.{div_ceil_times}
-use Rattle.admission.specs.Demand.{up, RoundsUp}
+use Rattle.admission.specs.Demand.{up}
 
 pub up_covers : (p q : ℕ) → 1 ≤ q → p ≤ up p q * q
 up_covers p q h =

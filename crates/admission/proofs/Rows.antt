@@ -1,14 +1,9 @@
 -- The rows that were read, and what is known of them.
-use Rattle.std.proofs.Common.{◌≡◌, ℕ, zero, suc, ◌+◌, ◌-◌, ◌<◌, ◌≤◌, List, [], ◌∷◌, length, get_or, take, drop, sym, refl, ap, ◌∙◌, arith}
-use Rattle.std.proofs.lemmas.List.{take_at}
+use Rattle.std.proofs.Common.{◌≡◌, ℕ, zero, suc, ◌+◌, ◌<◌, ◌≤◌, List, [], ◌∷◌, length, get_or, arith}
 use Rattle.std.proofs.ByRecursion.{All-get_or}
-use Rattle.fault.specs.Told.{Told, answered, refused}
-use Rattle.table.specs.declared.Table.{Table}
-use Rattle.table.specs.declared.rows.KindRow.{KindRow}
 use Rattle.table.specs.declared.rows.TaskRow.{TaskRow}
 use Rattle.table.specs.Format.{Rows}
 use Rattle.table.specs.Limits.{Limits, TaskLimits, Consumers}
-use Rattle.table.specs.Filling.{rows_in, table_of, summary, filled, overlaid}
 use Rattle.admission.specs.Ranks.{no_row, Tabled}
 use Rattle.admission.specs.Admission.{RowsSized}
 

@@ -1,6 +1,6 @@
 -- What the bounds are, once each search is known.
-use Rattle.std.proofs.Common.{◌≡◌, ℕ, ◌+◌, ◌≤◌, true, false, List, [], Some, None, Ok, Err, Option, Result, ok_or, sym, refl, ap, ◌∙◌, arith}
-use Rattle.std.proofs.lemmas.Bool.{cond-true, cond-false, leb-true}
+use Rattle.std.proofs.Common.{◌≡◌, ℕ, ◌+◌, true, false, List, [], Some, None, Ok, Err, Option, Result, ok_or, sym, refl, ap, ◌∙◌}
+use Rattle.std.proofs.lemmas.Bool.{cond-true, cond-false}
 use Rattle.fault.specs.declared.Fault.{Fault}
 use Rattle.fault.specs.Told.{Refusal, answered, refused, nowhere}
 use Rattle.fault.specs.Told.{admission as in_admission}

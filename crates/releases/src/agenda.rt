@@ -4,9 +4,10 @@ ghost use Rattle.queue.specs.Lists.{held};
 ghost use Rattle.queue.specs.Lent.{lent};
 ghost use Rattle.queue.specs.Entries.{sooner};
 ghost use Rattle.queue.specs.Orders.{inserted};
+ghost use Rattle.admission.specs.Sound.{task};
 ghost use Rattle.releases.specs.Releases.{Listed, Firsts, Advanced, next, nth, source_at, period_at};
 
-use admission::Figures;
+use admission::{Figures, Task};
 use queue::{Queue, Release, Source};
 
 // Room for the next release of each task and of the collector.
@@ -22,14 +23,21 @@ pub(crate) struct Agenda<'a> {
 }
 
 impl<'a> Agenda<'a> {
+    // The task of this rank; the collector's is one past the tasks.
+    fn task(&self, rank: u8) -> Option<Task>
+        ensures { MatchOption result (self.now.figures.now.task_count ≤ rank) (λ t. (rank < self.now.figures.now.task_count) × (t ≡ task self.now.figures.now rank)) }
+    {
+        let figures = self.figures;
+        figures.tasks[..figures.task_count as usize]
+            .get(rank as usize)
+            .map(|scheduled| scheduled.task)
+    }
+
     // Whoever has this rank.
     fn source(&self, rank: u8) -> Source
         ensures { result ≡ source_at self.now.figures.now rank }
     {
-        let figures = self.figures;
-        let tasks = &figures.tasks[..figures.task_count as usize];
-        tasks
-            .get(rank as usize)
+        self.task(rank)
             .map_or(Source::Collector, |task| Source::Task(task.number as u8))
     }
 
@@ -37,11 +45,8 @@ impl<'a> Agenda<'a> {
     fn period(&self, rank: u8) -> u32
         ensures { result ≡ period_at self.now.figures.now rank }
     {
-        let figures = self.figures;
-        let tasks = &figures.tasks[..figures.task_count as usize];
-        tasks
-            .get(rank as usize)
-            .map_or(figures.period, |task| task.period)
+        self.task(rank)
+            .map_or(self.figures.period, |task| task.period)
     }
 
     // The release after this one, of the same source.

@@ -1,5 +1,5 @@
 // The default table is read, line by line, and admitted.
-use admission::{Figures, Plan, Task, admit};
+use admission::{Figures, Plan, Scheduled, Task, admit};
 use fault::Fault;
 use queue::{Release, Source};
 use releases::first_releases;
@@ -100,9 +100,9 @@ fn show_terms(
     stretch: u32,
     part: Part,
 ) -> io::Result<()> {
-    for i in 0..MAX_TASKS {
-        let task = figures.tasks[i];
-        if i < ranks && task.number != 0 {
+    for scheduled in figures.tasks.iter().take(ranks) {
+        let task = scheduled.task;
+        if task.number != 0 {
             let count = times(stretch, task.period);
             let each = part_of(task, part);
             print!(rt; " + {count}*{each}")?;
@@ -150,10 +150,9 @@ fn show_period(rt: &HostRuntime, figures: &Figures) -> io::Result<()> {
 }
 
 fn show_ranks(rt: &HostRuntime, figures: &Figures) -> io::Result<()> {
-    for i in 0..MAX_TASKS {
-        let task = figures.tasks[i];
+    for (i, scheduled) in figures.tasks.iter().enumerate() {
+        let Scheduled { task, response } = *scheduled;
         let number = task.number;
-        let response = figures.responses[i];
         let deadline = task.deadline;
         let units = task.units;
         if number != 0 {

@@ -13,7 +13,7 @@ use Rattle.admission.specs.declared.figures.Bounds.{Bounds}
 use Rattle.admission.specs.declared.figures.Figures.{Figures}
 use Rattle.admission.specs.Demand.{DoneIn, Least, no_task}
 use Rattle.admission.specs.Search.{first_from, least, last_from, largest}
-use Rattle.admission.specs.Admission.{done_in, timed, responses, room_for, steps_of, words_fit, handles_fit, fits, padded, sized, collected, flipped, responded, weighed, figured, figures_of}
+use Rattle.admission.specs.Admission.{done_in, timed, responses, room_for, steps_of, words_fit, handles_fit, fits, padded, scheduled, unscheduled, sized, collected, flipped, responded, weighed, figured, figures_of}
 use Rattle.admission.proofs.Searching.{done_true, true_done}
 
 answer_or : {A : Type 0} → A → Told A → A
@@ -122,7 +122,7 @@ length_responses best (t ∷ ts) rs e =
 pub record Weighed (heap : HeapRow) (statics : StaticRow) (ts : List Task) (b : Bounds) : Type 0 where
   pub rs : List ℕ
   pub times : responses [] ts ≡ Ok rs
-  pub responses_are : b.responses ≡ padded 16 0 rs
+  pub tasks_are : b.tasks ≡ padded 16 unscheduled (scheduled ts rs)
   pub late : least (done_in 1 ts) 1000000 ≡ Some b.room.lateness
   pub room : b.room ≡ room_for heap statics ts b.room.lateness
   pub whole : least (done_in (steps_of b.room) ts) 1000000 ≡ Some b.span
@@ -130,7 +130,7 @@ pub record Weighed (heap : HeapRow) (statics : StaticRow) (ts : List Task) (b : 
   pub handles : handles_fit b.room ts b.span ≡ true
   pub period : b.period ≡ largest (fits b.room ts) b.span 1000000
 
-inv_sized : (ts : List Task) (rs : List ℕ) (m : Room) (q : ℕ) (b : Bounds) → sized ts rs m q ≡ answered b → (words_fit m ts q ≡ true) × (handles_fit m ts q ≡ true) × (b ≡ record { responses = padded 16 0 rs; room = m; span = q; period = largest (fits m ts) q 1000000 })
+inv_sized : (ts : List Task) (rs : List ℕ) (m : Room) (q : ℕ) (b : Bounds) → sized ts rs m q ≡ answered b → (words_fit m ts q ≡ true) × (handles_fit m ts q ≡ true) × (b ≡ record { tasks = padded 16 unscheduled (scheduled ts rs); room = m; span = q; period = largest (fits m ts) q 1000000 })
 unfolding sized
 inv_sized ts rs m q b e =
     elim (cases_Bool (words_fit m ts q)) [
@@ -139,7 +139,7 @@ inv_sized ts rs m q b e =
           elim (cases_Bool (handles_fit m ts q)) [
             | inr f ↦ (let d : refused (nowhere 10 in_admission) ≡ answered b = sym (cond-true (words_fit m ts q) _ _ w ∙ cond-false (handles_fit m ts q) _ _ f) ∙ e in let z : ◌≡◌ {A = ℕ} 0 1 = cc in absurd (omega arith))
             | inl o ↦
-                (let full : Bounds = record { responses = padded 16 0 rs; room = m; span = q; period = largest (fits m ts) q 1000000 } in
+                (let full : Bounds = record { tasks = padded 16 unscheduled (scheduled ts rs); room = m; span = q; period = largest (fits m ts) q 1000000 } in
                 let d : answered full ≡ answered b = sym (cond-true (words_fit m ts q) _ _ w ∙ cond-true (handles_fit m ts q) _ _ o) ∙ e in
                 (w, o, answered_same b full (sym d)))
           ]
@@ -168,12 +168,12 @@ inv_weighed heap statics kinds ts b e =
     let m = room_for heap statics ts f.0 in
     let w = inv_collected ts r.0 m (least (done_in (steps_of m) ts) 1000000) b f.2 in
     let s = inv_sized ts r.0 m w.0 b w.2 in
-    let full : Bounds = record { responses = padded 16 0 r.0; room = m; span = w.0; period = largest (fits m ts) w.0 1000000 } in
+    let full : Bounds = record { tasks = padded 16 unscheduled (scheduled ts r.0); room = m; span = w.0; period = largest (fits m ts) w.0 1000000 } in
     subst (Weighed heap statics ts) (sym s.2)
     (record {
       rs = r.0;
       times = r.1;
-      responses_are = refl;
+      tasks_are = refl;
       late = f.1;
       room = refl;
       whole = w.1;
@@ -182,6 +182,6 @@ inv_weighed heap statics kinds ts b e =
       period = refl;
     })
 
-pub inv_figured : (rows : Rows) (ts : List Task) (v : Told Bounds) (f : Figures) → answered f ≡ figured rows ts v → (b : Bounds) × (v ≡ answered b) × (f ≡ figures_of rows ts b)
-inv_figured rows ts (answered b) f e = (b, refl, answered_same f (figures_of rows ts b) e)
-inv_figured rows ts (refused r) f e = let z : ◌≡◌ {A = ℕ} 0 1 = cc in absurd (omega arith)
+pub inv_figured : (rows : Rows) (v : Told Bounds) (f : Figures) → answered f ≡ figured rows v → (b : Bounds) × (v ≡ answered b) × (f ≡ figures_of rows b)
+inv_figured rows (answered b) f e = (b, refl, answered_same f (figures_of rows b) e)
+inv_figured rows (refused r) f e = let z : ◌≡◌ {A = ℕ} 0 1 = cc in absurd (omega arith)

@@ -10,4 +10,3 @@ pub mod Rows
 pub mod Inverse
 pub mod Ordering
 pub mod Sounding
-pub mod Invariant

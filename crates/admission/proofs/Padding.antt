@@ -1,6 +1,6 @@
 -- A list in an array, filled place by place.
-use Rattle.std.proofs.Common.{◌≡◌, ℕ, ◌+◌, ◌<◌, ◌≤◌, List, [], ◌∷◌, ◌++◌, length, get_or, take, drop, set, replicate, sym, refl, ap, ◌∙◌, append_assoc, arith}
-use Rattle.std.proofs.lemmas.List.{drop_more, set_at, length-replicate, take_more, length-take-le, take_at, take_more_set, length-append, length-drop}
+use Rattle.std.proofs.Common.{◌≡◌, ℕ, ◌+◌, ◌<◌, List, [], ◌∷◌, ◌++◌, length, get_or, take, drop, set, replicate, sym, refl, ap, ◌∙◌, append_assoc, arith}
+use Rattle.std.proofs.lemmas.List.{drop_more, set_at, length-replicate, length-take-le, take_at, take_more_set}
 use Rattle.admission.specs.Admission.{padded}
 
 -- the next place takes v
@@ -11,20 +11,6 @@ fill_next size d v xs i l h =
     let b = set_at xs (get_or (replicate size d) i d) (drop (i + 1) (replicate size d)) v i l in
     let e = append_assoc xs (v ∷ []) (drop (i + 1) (replicate size d)) in
     cc
-
--- a copy of the first i of a list, one more
-pub copy_next : {X : Type 0} (size : ℕ) (d v : X) (xs ys : List X) (i : ℕ) → ys ≡ take i xs ++ drop i (replicate size d) → i < length xs → length xs ≤ size → v ≡ get_or xs i d → set ys i v ≡ take (i + 1) xs ++ drop (i + 1) (replicate size d)
-copy_next size d v xs ys i e h l g =
-    let a = fill_next size d v (take i xs) i (length-take-le i xs (omega arith)) (omega arith) in
-    let b = take_more xs i d h in
-    cc
-
-pub length_padded : {X : Type 0} (size : ℕ) (d : X) (xs : List X) → length xs ≤ size → length (padded size d xs) ≡ size
-length_padded size d xs h =
-    let a = length-append xs (drop (length xs) (replicate size d)) in
-    let b = length-drop (length xs) (replicate size d) in
-    let c = length-replicate size d in
-    omega arith
 
 pub take_padded : {X : Type 0} (size : ℕ) (d : X) (xs : List X) → take (length xs) (padded size d xs) ≡ xs
 take_padded size d xs = take_at xs (drop (length xs) (replicate size d)) (length xs) refl

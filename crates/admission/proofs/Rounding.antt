@@ -1,6 +1,7 @@
 -- Division that rounds up.
-use Rattle.std.proofs.Common.{◌≡◌, ℕ, ◌+◌, ◌-◌, ◌*◌, ◌/◌, ◌%◌, ◌<◌, ◌≤◌, le_trans, mod-lt, div-lt_iff_lt-mul, add-mul, mul-le-mul_left, one-mul, div-add-mod', mul-one, arith}
-use Rattle.admission.specs.Demand.{up, RoundsUp}
+use Rattle.std.proofs.Common.{◌≡◌, ℕ, ◌+◌, ◌-◌, ◌*◌, ◌/◌, ◌%◌, ◌<◌, ◌≤◌, min, lt_of_mul-lt-mul_right, le_trans, mod-lt, div-lt_iff_lt-mul, add-mul, mul-le-mul_left, one-mul, div-add-mod', mul-one, arith}
+use Rattle.std.proofs.lemmas.Grind.{div_ceil_times}
+use Rattle.admission.specs.Demand.{up}
 
 pub up_covers : (p q : ℕ) → 1 ≤ q → p ≤ up p q * q
 up_covers p q h =
@@ -16,9 +17,6 @@ up_least p q k h l =
     let d : (p + (q - 1)) / q < k + 1 = (div-lt_iff_lt-mul h).1 b in
     omega arith
 
-pub up_law : (p q : ℕ) → 1 ≤ q → RoundsUp p q (up p q)
-up_law p q h = record { covers = up_covers p q h; least = λ k l. up_least p q k h l }
-
 pub up_small : (p q : ℕ) → 1 ≤ q → up p q ≤ p
 up_small p q h =
     let m : p * 1 ≤ p * q = mul-le-mul_left p h in
@@ -27,3 +25,15 @@ up_small p q h =
 
 pub up_rises : (a b q : ℕ) → 1 ≤ q → a ≤ b → up a q ≤ up b q
 up_rises a b q h l = up_least a q (up b q) h (le_trans l (up_covers b q h))
+
+-- a quotient, and one more where something is left
+pub ceil_is : (p q : ℕ) → 1 ≤ q → p / q + min 1 (p % q) ≡ up p q
+ceil_is p q h =
+    let c = div_ceil_times p q h in
+    let k = up_covers p q h in
+    let e : (up p q + 1) * q ≡ up p q * q + 1 * q = add-mul (up p q) 1 q in
+    let o : 1 * q ≡ q = one-mul q in
+    let b : (p / q + min 1 (p % q)) * q < (up p q + 1) * q = omega arith in
+    let l = lt_of_mul-lt-mul_right q b in
+    let m = up_least p q (p / q + min 1 (p % q)) h c.0 in
+    omega arith

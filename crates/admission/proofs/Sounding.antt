@@ -1,6 +1,6 @@
 -- The figures of an accepted table are sound.
-use Rattle.std.proofs.Common.{◌≡◌, ℕ, ◌+◌, ◌-◌, ◌*◌, ◌<◌, ◌≤◌, true, eqb, List, [], length, get_or, take, drop, replicate, sym, ap, ◌∙◌, subst, inl, inr, arith}
-use Rattle.std.proofs.lemmas.List.{get_or_append_left, take-append-le}
+use Rattle.std.proofs.Common.{◌≡◌, ℕ, ◌+◌, ◌-◌, ◌*◌, ◌<◌, ◌≤◌, true, eqb, List, [], map, length, get_or, take, drop, replicate, sym, ap, ◌∙◌, subst, inl, inr, arith}
+use Rattle.std.proofs.lemmas.List.{get_or_append_left, take-append-le, take-map}
 use Rattle.std.proofs.ByRecursion.{All-get_or}
 use Rattle.std.proofs.lemmas.Bool.{and_parts, and_from, leb-true, le-leb, cond-true, cond-false, eq-eqb, ne_eqb, cases_lt}
 use Rattle.fault.specs.Told.{answered}
@@ -8,15 +8,17 @@ use Rattle.queue.specs.Entries.{better}
 use Rattle.table.specs.Format.{Rows}
 use Rattle.table.specs.Limits.{Limits, TaskLimits, KindLimits}
 use Rattle.admission.specs.declared.task.Task.{Task}
+use Rattle.admission.specs.declared.task.Scheduled.{Scheduled}
 use Rattle.admission.specs.declared.task.Share.TheVariants.{Words, Objects}
 use Rattle.admission.specs.declared.figures.Bounds.{Bounds}
 use Rattle.admission.specs.declared.figures.Figures.{Figures}
 use Rattle.admission.specs.Demand.{up, DoneIn, Least, no_task, demand, part_of}
 use Rattle.admission.specs.Ranks.{ranked, row_at, life_of, no_row}
-use Rattle.admission.specs.Admission.{admission, weighed, figures_of, padded, no_kind, live, steps_of, words_fit, handles_fit, fits}
+use Rattle.admission.specs.Admission.{admission, weighed, figures_of, padded, scheduled, unscheduled, no_kind, live, steps_of, words_fit, handles_fit, fits}
 use Rattle.admission.specs.Sound.{Sound, task, response, tasks_of, ahead, rank, WordsFit, HandlesFit, KindsKept, TimesKept, SharesKept, RanksKept, NumbersKept, LivesKept, OthersKept, ConsumersKept, Responds, RespondsFirst, LivesCounted, StepsCounted, FlipsLate, FlipsFirst, Spans, SpansFirst, PeriodFits, PeriodLongest}
 use Rattle.admission.proofs.Padding.{take_padded}
 use Rattle.admission.proofs.Ranking.{length_ranked}
+use Rattle.admission.proofs.Timing.{length_scheduled, scheduled_at, scheduled_tasks}
 use Rattle.admission.proofs.Rows.{consumers_at}
 use Rattle.admission.proofs.Inverse.{least_holds, Largest, largest_holds, respond_at, length_responses, Weighed, inv_weighed, inv_figured}
 use Rattle.admission.proofs.Ordering.{ranks_ascend, numbers_differ, Known, known_at}
@@ -29,24 +31,47 @@ module _ (rows : Rows) (b : Bounds) (l : Limits rows) (w : Weighed rows.heap row
   ts = ranked rows.tasks
 
   abbrev f : Figures
-  f = figures_of rows ts b
+  f = figures_of rows b
 
   -- Parts of arrays.
 
+  abbrev xs : List Scheduled
+  xs = scheduled ts w.rs
+
+  length_rs : length w.rs ≡ length ts
+  length_rs = length_responses [] ts w.rs w.times
+
+  length_xs : length xs ≡ n
+  length_xs = length_scheduled ts w.rs length_rs ∙ length_ranked rows.tasks
+
+  place_is : (i : ℕ) → i < n → get_or b.tasks i unscheduled ≡ record { task = get_or ts i no_task; response = get_or w.rs i 0 }
+  place_is i h =
+      let m = length_ranked rows.tasks in
+      let k = length_xs in
+      ap (λ (l : List Scheduled). get_or l i unscheduled) w.tasks_are
+      ∙ get_or_append_left xs (drop (length xs) (replicate 16 unscheduled)) unscheduled i (omega arith)
+      ∙ scheduled_at ts w.rs i length_rs (omega arith)
+
   task_is : (i : ℕ) → i < n → task f i ≡ get_or ts i no_task
-  task_is i h = let m = length_ranked rows.tasks in get_or_append_left ts (drop (length ts) (replicate 16 no_task)) no_task i (omega arith)
+  task_is i h = ap (λ s. s.task) (place_is i h)
 
   tasks_are : tasks_of f ≡ ts
-  tasks_are = ap (λ k. take k (padded 16 no_task ts)) (sym (length_ranked rows.tasks)) ∙ take_padded 16 no_task ts
+  tasks_are =
+      ap (λ (l : List Scheduled). map (λ s. s.task) (take n l)) w.tasks_are
+      ∙ ap (λ k. map (λ s. s.task) (take k (padded 16 unscheduled xs))) (sym length_xs)
+      ∙ ap (map (λ s. s.task)) (take_padded 16 unscheduled xs)
+      ∙ scheduled_tasks ts w.rs length_rs
 
   ahead_is : (i : ℕ) → i < n → ahead f i ≡ take i ts
-  ahead_is i h = let m = length_ranked rows.tasks in take-append-le i ts (drop (length ts) (replicate 16 no_task)) (omega arith)
+  ahead_is i h =
+      let k = length_xs in
+      ap (λ (l : List Scheduled). map (λ s. s.task) (take i l)) w.tasks_are
+      ∙ ap (map (λ s. s.task)) (take-append-le i xs (drop (length xs) (replicate 16 unscheduled)) (omega arith))
+      ∙ sym (take-map (λ s. s.task) i xs)
+      ∙ ap (take i) (scheduled_tasks ts w.rs length_rs)
 
   response_is : (i : ℕ) → i < n → response f i ≡ get_or w.rs i 0
-  response_is i h =
-      let m = length_ranked rows.tasks in
-      let k = length_responses [] ts w.rs w.times in
-      ap (λ (r : List ℕ). get_or r i 0) w.responses_are ∙ get_or_append_left w.rs (drop (length w.rs) (replicate 16 0)) 0 i (omega arith)
+  response_is i h = ap (λ s. s.response) (place_is i h)
 
   -- Each task.
 
@@ -260,7 +285,7 @@ pub sound : (rows : Rows) (g : Figures) → Limits rows → answered g ≡ admis
 unfolding admission
 sound rows g l e =
     let v = weighed rows.heap rows.statics (length rows.kinds) (ranked rows.tasks) in
-    let i = inv_figured rows (ranked rows.tasks) v g e in
+    let i = inv_figured rows v g e in
     subst Sound (sym i.2) (sound_figures rows i.0 l (inv_weighed rows.heap rows.statics (length rows.kinds) (ranked rows.tasks) i.0 i.1))
 
 -- and their period is not 0
@@ -268,5 +293,5 @@ pub not_blank : (rows : Rows) (g : Figures) → Limits rows → answered g ≡ a
 unfolding admission
 not_blank rows g l e =
     let v = weighed rows.heap rows.statics (length rows.kinds) (ranked rows.tasks) in
-    let i = inv_figured rows (ranked rows.tasks) v g e in
+    let i = inv_figured rows v g e in
     subst (λ h. 1 ≤ h.period) (sym i.2) (period_some rows i.0 l (inv_weighed rows.heap rows.statics (length rows.kinds) (ranked rows.tasks) i.0 i.1))

@@ -1,35 +1,35 @@
 -- What the bounds are, once each search is known.
-use Rattle.std.proofs.Common.{◌≡◌, ℕ, ◌+◌, ◌≤◌, true, false, List, [], Some, None, Ok, Err, Result, sym, refl, ap, ◌∙◌, arith}
-use Rattle.std.proofs.lemmas.Bool.{cond-true, cond-false, leb-true}
-use Rattle.fault.specs.Told.{answered, refused, nowhere}
+use Rattle.std.proofs.Common.{◌≡◌, ℕ, ◌+◌, true, false, List, [], Some, None, Ok, Err, Option, Result, ok_or, sym, refl, ap, ◌∙◌}
+use Rattle.std.proofs.lemmas.Bool.{cond-true, cond-false}
+use Rattle.fault.specs.declared.Fault.{Fault}
+use Rattle.fault.specs.Told.{Refusal, answered, refused, nowhere}
 use Rattle.fault.specs.Told.{admission as in_admission}
 use Rattle.table.specs.declared.rows.HeapRow.{HeapRow}
 use Rattle.table.specs.declared.rows.StaticRow.{StaticRow}
 use Rattle.admission.specs.declared.task.Task.{Task}
+use Rattle.admission.specs.declared.task.Scheduled.{Scheduled}
 use Rattle.admission.specs.declared.figures.Room.{Room}
 use Rattle.admission.specs.declared.figures.Bounds.{Bounds}
 use Rattle.admission.specs.Search.{least, largest}
-use Rattle.admission.specs.Admission.{weighed, responded, flipped, collected, sized, responses, done_in, room_for, steps_of, words_fit, handles_fit, fits, padded, timetable, misses_deadline}
+use Rattle.admission.specs.Admission.{weighed, responded, flipped, collected, sized, responses, done_in, room_for, steps_of, words_fit, handles_fit, fits, padded, scheduled, unscheduled, timetabled, misses_deadline}
 
-pub same_bounds : (rs : List ℕ) {ss : List ℕ} {m : Room} {q p r : ℕ} → rs ≡ ss → p ≡ r → ◌≡◌ {A = Bounds} (record { responses = rs; room = m; span = q; period = p }) (record { responses = ss; room = m; span = q; period = r })
+pub same_bounds : (rs : List Scheduled) {ss : List Scheduled} {m : Room} {q p r : ℕ} → rs ≡ ss → p ≡ r → ◌≡◌ {A = Bounds} (record { tasks = rs; room = m; span = q; period = p }) (record { tasks = ss; room = m; span = q; period = r })
 same_bounds rs {ss} {m} {q} {p} {r} e h =
-    let bounds : List ℕ → ℕ → Bounds = λ a b. record { responses = a; room = m; span = q; period = b } in
+    let bounds : List Scheduled → ℕ → Bounds = λ a b. record { tasks = a; room = m; span = q; period = b } in
     ap (λ a. bounds a p) e ∙ ap (bounds ss) h
 
--- what fits holds the live words and objects
-pub words_live : (m : Room) (ts : List Task) (q s : ℕ) → m.space ≡ s → true ≡ words_fit m ts q → (m.live_words ≤ s) × (m.space ≡ s)
-words_live m ts q s e t = (omega (arith, leb-true _ _ (sym t)), e)
+-- a search that found nothing, as an error
+pub not_found : (o : Option ℕ) (e f : Fault) → ◌≡◌ {A = Result ℕ Fault} (Err f) (ok_or o e) → (None ≡ o) × (e ≡ f)
+not_found None e f h = (refl, (cc))
+not_found (Some n) e f h = cc
 
-pub objects_live : (m : Room) (ts : List Task) (q n : ℕ) → m.handles ≡ n → true ≡ handles_fit m ts q → (m.live_objects ≤ n) × (m.handles ≡ n)
-objects_live m ts q n e t = (omega (arith, leb-true _ _ (sym t)), e)
+pub timed_ok : (kinds : ℕ) (ts : List Task) (x : Result (List ℕ) ℕ) (tasks : List Scheduled) → answered tasks ≡ timetabled kinds ts x → (rs : List ℕ) × (x ≡ Ok rs) × (tasks ≡ padded 16 unscheduled (scheduled ts rs))
+timed_ok kinds ts (Ok rs) tasks e = (rs, refl, (cc))
+timed_ok kinds ts (Err n) tasks e = cc
 
-pub timed_ok : (x : Result (List ℕ) ℕ) (times : List ℕ) → Ok times ≡ timetable x → (rs : List ℕ) × (x ≡ Ok rs) × (times ≡ padded 16 0 rs)
-timed_ok (Ok rs) times e = (rs, refl, (cc))
-timed_ok (Err n) times e = let z : ◌≡◌ {A = ℕ} 0 1 = cc in absurd (omega arith)
-
-pub timed_err : (x : Result (List ℕ) ℕ) (n : ℕ) → Err n ≡ timetable x → x ≡ Err n
-timed_err (Ok rs) n e = let z : ◌≡◌ {A = ℕ} 0 1 = cc in absurd (omega arith)
-timed_err (Err m) n e = sym e
+pub timed_err : (kinds : ℕ) (ts : List Task) (x : Result (List ℕ) ℕ) (r : Refusal) → refused r ≡ timetabled kinds ts x → (n : ℕ) × (x ≡ Err n) × (r ≡ misses_deadline (2 + kinds + n))
+timed_err kinds ts (Ok rs) r e = cc
+timed_err kinds ts (Err n) r e = (n, refl, (cc))
 
 module _ (heap : HeapRow) (statics : StaticRow) (kinds : ℕ) (ts : List Task) where
   pub says_7 : (n : ℕ) → responses [] ts ≡ Err n → weighed heap statics kinds ts ≡ refused (misses_deadline (2 + kinds + n))
@@ -71,6 +71,6 @@ module _ (heap : HeapRow) (statics : StaticRow) (kinds : ℕ) (ts : List Task) w
     unfolding sized
     says_10 q n w o = after_whole q n ∙ cond-true _ _ _ (sym w) ∙ cond-false _ _ _ (sym o)
 
-    pub says_plan : (q : ℕ) → Some q ≡ least (done_in (steps_of m) ts) 1000000 → true ≡ words_fit m ts q → true ≡ handles_fit m ts q → weighed heap statics kinds ts ≡ answered (record { responses = padded 16 0 rs; room = m; span = q; period = largest (fits m ts) q 1000000 })
+    pub says_plan : (q : ℕ) → Some q ≡ least (done_in (steps_of m) ts) 1000000 → true ≡ words_fit m ts q → true ≡ handles_fit m ts q → weighed heap statics kinds ts ≡ answered (record { tasks = padded 16 unscheduled (scheduled ts rs); room = m; span = q; period = largest (fits m ts) q 1000000 })
     unfolding sized
     says_plan q n w o = after_whole q n ∙ cond-true _ _ _ (sym w) ∙ cond-true _ _ _ (sym o)

@@ -7,6 +7,7 @@ use Rattle.table.specs.declared.rows.StaticRow.{StaticRow}
 use Rattle.table.specs.declared.rows.KindRow.{KindRow}
 use Rattle.table.specs.Format.{Rows}
 use Rattle.admission.specs.declared.task.Task.{Task}
+use Rattle.admission.specs.declared.task.Scheduled.{Scheduled}
 use Rattle.admission.specs.declared.task.Share.{Share}
 use Rattle.admission.specs.declared.task.Share.TheVariants.{Words, Objects}
 use Rattle.admission.specs.declared.figures.Room.{Room}
@@ -30,13 +31,18 @@ abbrev pub responses : List Task → List Task → Result (List ℕ) ℕ
 responses best [] = Ok []
 responses best (t ∷ ts) = timed t.number (least (done_in t.units best) t.deadline) (responses (best ++ t ∷ []) ts)
 
+-- tasks with their response times
+abbrev pub scheduled : List Task → List ℕ → List Scheduled
+scheduled [] rs = []
+scheduled (t ∷ ts) [] = []
+scheduled (t ∷ ts) (r ∷ rs) = record { task = t; response = r } ∷ scheduled ts rs
+
+abbrev pub unscheduled : Scheduled
+unscheduled = record { task = no_task; response = 0 }
+
 -- a list in an array
 abbrev pub padded : {X : Type 0} → ℕ → X → List X → List X
 padded size d xs = xs ++ drop (length xs) (replicate size d)
-
-abbrev pub timetable : Result (List ℕ) ℕ → Result (List ℕ) ℕ
-timetable (Ok rs) = Ok (padded 16 0 rs)
-timetable (Err n) = Err n
 
 -- what is alive at most: what is static, and for each task the jobs of its life
 abbrev pub live : Share → ℕ → List Task → ℕ
@@ -75,7 +81,7 @@ unfoldable pub sized : List Task → List ℕ → Room → ℕ → Told Bounds
 sized ts rs m q =
     cond (words_fit m ts q)
     (cond (handles_fit m ts q)
-    (answered (record { responses = padded 16 0 rs; room = m; span = q; period = largest (fits m ts) q 1000000 }))
+    (answered (record { tasks = padded 16 unscheduled (scheduled ts rs); room = m; span = q; period = largest (fits m ts) q 1000000 }))
     (refused (nowhere 10 in_admission)))
     (refused (nowhere 9 in_admission))
 
@@ -94,6 +100,11 @@ flipped heap statics ts rs (Some f) =
 abbrev pub misses_deadline : ℕ → Refusal
 misses_deadline line = record { number = 7; layer = in_admission; place = line; column = 0 }
 
+-- tasks and their response times in an array, or the refusal of the first that has none
+abbrev pub timetabled : ℕ → List Task → Result (List ℕ) ℕ → Told (List Scheduled)
+timetabled kinds ts (Ok rs) = answered (padded 16 unscheduled (scheduled ts rs))
+timetabled kinds ts (Err n) = refused (misses_deadline (2 + kinds + n))
+
 unfoldable pub responded : HeapRow → StaticRow → ℕ → List Task → Result (List ℕ) ℕ → Told Bounds
 responded heap statics kinds ts (Err n) = refused (misses_deadline (2 + kinds + n))
 responded heap statics kinds ts (Ok rs) = flipped heap statics ts rs (least (done_in 1 ts) 1000000)
@@ -102,16 +113,15 @@ responded heap statics kinds ts (Ok rs) = flipped heap statics ts rs (least (don
 unfoldable pub weighed : HeapRow → StaticRow → ℕ → List Task → Told Bounds
 weighed heap statics kinds ts = responded heap statics kinds ts (responses [] ts)
 
-abbrev pub figures_of : Rows → List Task → Bounds → Figures
-figures_of rows ts b =
+abbrev pub figures_of : Rows → Bounds → Figures
+figures_of rows b =
     record {
       heap = rows.heap;
       statics = rows.statics;
       kinds = padded 32 no_kind rows.kinds;
       kind_count = length rows.kinds;
-      tasks = padded 16 no_task ts;
+      tasks = b.tasks;
       task_count = length rows.tasks;
-      responses = b.responses;
       live_words = b.room.live_words;
       live_objects = b.room.live_objects;
       steps = steps_of b.room;
@@ -120,13 +130,13 @@ figures_of rows ts b =
       period = b.period;
     }
 
-abbrev pub figured : Rows → List Task → Told Bounds → Told Figures
-figured rows ts (answered b) = answered (figures_of rows ts b)
-figured rows ts (refused e) = refused e
+abbrev pub figured : Rows → Told Bounds → Told Figures
+figured rows (answered b) = answered (figures_of rows b)
+figured rows (refused e) = refused e
 
 unfoldable pub admission : Rows → Told Figures
 admission rows =
-    figured rows (ranked rows.tasks) (weighed rows.heap rows.statics (length rows.kinds) (ranked rows.tasks))
+    figured rows (weighed rows.heap rows.statics (length rows.kinds) (ranked rows.tasks))
 
 -- what is known of the rows of an accepted text
 pub record RowsSized (rows : Rows) : Type 0 where

@@ -2,8 +2,7 @@
 use Rattle.std.specs.Prelude.{replicate}
 use Rattle.admission.specs.declared.figures.Figures.{Figures}
 use Rattle.admission.specs.declared.plan.Plan.{Plan}
-use Rattle.admission.specs.Demand.{no_task}
-use Rattle.admission.specs.Admission.{no_kind}
+use Rattle.admission.specs.Admission.{no_kind, unscheduled}
 
 abbrev pub figures_in : Plan → Figures
 figures_in p = p.figures
@@ -15,9 +14,8 @@ blank_figures =
       statics = record { words = 0; objects = 0 };
       kinds = replicate 32 no_kind;
       kind_count = 0;
-      tasks = replicate 16 no_task;
+      tasks = replicate 16 unscheduled;
       task_count = 0;
-      responses = replicate 16 0;
       live_words = 0;
       live_objects = 0;
       steps = 0;

@@ -1,27 +1,27 @@
 -- What a plan keeps: it is blank, with all measures 0, or it keeps the limits of a table and every bound of admission.
 -- The period of a blank plan is 0, and that of no other.
-use Rattle.std.specs.Prelude.{◌≡◌, ℕ, ◌+◌, ◌*◌, ◌^◌, ◌<◌, ◌≤◌, true, List, take, ◌≢◌, slice_index, slice_index_or}
+use Rattle.std.specs.Prelude.{◌≡◌, ℕ, ◌+◌, ◌*◌, ◌^◌, ◌<◌, ◌≤◌, true, List, map, take, ◌≢◌, slice_index_or}
 use Rattle.queue.specs.declared.entries.Rank.{Rank}
 use Rattle.queue.specs.Entries.{better}
 use Rattle.table.specs.declared.rows.KindRow.{KindRow}
 use Rattle.admission.specs.declared.task.Task.{Task}
 use Rattle.admission.specs.declared.task.Share.TheVariants.{Words, Objects}
 use Rattle.admission.specs.declared.figures.Figures.{Figures}
-use Rattle.admission.specs.Demand.{up, demand, part_of, no_task, DoneIn}
-use Rattle.admission.specs.Admission.{live, no_kind}
+use Rattle.admission.specs.Demand.{up, demand, part_of, DoneIn}
+use Rattle.admission.specs.Admission.{live, no_kind, unscheduled}
 
 abbrev pub task : Figures → ℕ → Task
-task f i = slice_index_or f.tasks i no_task
+task f i = (slice_index_or f.tasks i unscheduled).task
 
 abbrev pub response : Figures → ℕ → ℕ
-response f i = slice_index f.responses i
+response f i = (slice_index_or f.tasks i unscheduled).response
 
 -- the tasks, and those of better rank than the i-th
 abbrev pub tasks_of : Figures → List Task
-tasks_of f = take f.task_count f.tasks
+tasks_of f = map (λ s. s.task) (take f.task_count f.tasks)
 
 abbrev pub ahead : Figures → ℕ → List Task
-ahead f i = take i f.tasks
+ahead f i = map (λ s. s.task) (take i f.tasks)
 
 abbrev pub rank : Task → Rank
 rank t = record { deadline = t.deadline; task = t.number }

@@ -1,5 +1,5 @@
 // What admission works out of a table.
-use crate::task::Task;
+use crate::task::Scheduled;
 use table::rows::{HeapRow, KindRow, MAX_KINDS, MAX_TASKS, StaticRow};
 
 // The bounds of the heap, once it is known how late a flip can be.
@@ -12,16 +12,16 @@ pub struct Room {
     pub lateness: u32,
 }
 
-// The bounds of the tasks: response times in rank order, the heap's, the least stretch that holds a whole collection, the collector's period.
+// The bounds of the tasks: the tasks in rank order with their response times, the heap's, the least stretch that holds a whole collection, the collector's period.
 #[derive(Clone, Copy)]
 pub struct Bounds {
-    pub responses: [u32; MAX_TASKS],
+    pub tasks: [Scheduled; MAX_TASKS],
     pub room: Room,
     pub span: u32,
     pub period: u32,
 }
 
-// The rows with the tasks in rank order, their response times, the live bounds, the steps of a collection at most, how late a flip can be,
+// The rows with the tasks in rank order and their response times, the live bounds, the steps of a collection at most, how late a flip can be,
 // the least stretch that holds a whole collection, and the collector's period. All 0 where nothing is admitted.
 #[derive(Clone, Copy)]
 pub struct Figures {
@@ -29,9 +29,8 @@ pub struct Figures {
     pub statics: StaticRow,
     pub kinds: [KindRow; MAX_KINDS],
     pub kind_count: u32,
-    pub tasks: [Task; MAX_TASKS],
+    pub tasks: [Scheduled; MAX_TASKS],
     pub task_count: u32,
-    pub responses: [u32; MAX_TASKS],
     pub live_words: u32,
     pub live_objects: u32,
     pub steps: u32,

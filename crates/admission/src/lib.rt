@@ -1,6 +1,7 @@
 // From the rows of a table to the longest period of the collector, or the bound that breaks.
 #![tactic(auto)]
 
+mod accepted;
 mod bounds;
 mod figures;
 mod plan;
@@ -12,4 +13,4 @@ mod work;
 pub use figures::Figures;
 pub use plan::Plan;
 pub use plan::makes::admit;
-pub use task::Task;
+pub use task::{Scheduled, Task};

@@ -1,5 +1,8 @@
+ghost use Rattle.std.specs.Prelude.{◌≡◌};
+ghost use Rattle.admission.specs.Demand.{part_of};
+
 // A task as admission reckons with it: its number in the table, its life worked out, and its consumer, 0 for none.
-#[derive(Clone, Copy, PartialEq, Eq, Debug)]
+#[derive(Clone, Copy, PartialEq, Eq, Default, Debug)]
 pub struct Task {
     pub number: u32,
     pub period: u32,
@@ -22,9 +25,32 @@ pub const NO_TASK: Task = Task {
     consumer: 0,
 };
 
+// A task, and the response time of its jobs.
+#[derive(Clone, Copy, PartialEq, Eq, Debug)]
+pub struct Scheduled {
+    pub task: Task,
+    pub response: u32,
+}
+
+pub const UNSCHEDULED: Scheduled = Scheduled {
+    task: NO_TASK,
+    response: 0,
+};
+
 // What a job may allocate: words, or objects.
 #[derive(Clone, Copy, PartialEq, Eq, Debug)]
 pub enum Share {
     Words,
     Objects,
+}
+
+impl Share {
+    pub(crate) fn of(self, t: &Task) -> u32
+        ensures { result ≡ part_of self t.now }
+    {
+        match self {
+            Share::Words => t.words,
+            Share::Objects => t.objects,
+        }
+    }
 }

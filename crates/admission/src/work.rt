@@ -1,156 +1,121 @@
 // From rows to figures, or the first bound that breaks.
-ghost use Rattle.std.specs.Prelude.{◌≡◌, ℕ, ◌+◌, ◌<◌, ◌≤◌, [], length, IfOk, IfErr};
-ghost use Rattle.fault.specs.Told.{told, refusal, nowhere, number_of, admission as in_admission};
-ghost use Rattle.admission.specs.Admission.{responses, timetable, padded, no_kind};
-ghost use Rattle.admission.specs.Demand.{Few, Timed, Numbers};
-ghost use Rattle.admission.specs.Admission.{misses_deadline, room_for, weighed, admission, RowsSized};
+ghost use Rattle.std.specs.Prelude.{◌≡◌, ◌+◌, ◌≤◌, [], length, IfOk};
+ghost use Rattle.fault.specs.Told.{told, refusal};
+ghost use Rattle.admission.specs.Admission.{responses, timetabled, padded, no_kind, room_for, weighed, admission, misses_deadline};
 
-use crate::bounds::settle;
+use crate::accepted::Accepted;
+use crate::bounds::Tasks;
 use crate::figures::{Bounds, Figures, Room};
-use crate::ranks::rank_tasks;
-use crate::room::live_bound;
-use crate::task::{Share, Task};
-use fault::{Cause, Fault, Layer, Place};
-use table::rows::{
-    HeapRow, KindRow, MAX_KINDS, MAX_PERIOD, MAX_TASKS, NO_KIND, StaticRow, TaskRow,
-};
+use crate::room::Shared;
+use crate::task::{Scheduled, Share, Task, UNSCHEDULED};
+use fault::{Cause, Fault, Layer};
+use table::rows::{KindRow, MAX_KINDS, MAX_PERIOD, MAX_TASKS, NO_KIND};
 
-// The response time of each task, or the number of the first that has none.
-fn response_times(tasks: &[Task]) -> Result<[u32; MAX_TASKS], u32>
-    requires few { Few tasks.now }
-    requires timed { Timed tasks.now }
-    requires numbers { Numbers tasks.now }
-    ensures value { result ≡ timetable (responses [] tasks.now) }
-    ensures number { IfErr result (λ n. n ≤ 16) }
-{
-    let mut times = [0; MAX_TASKS];
-    for i in 0..tasks.len() {
-        match settle(tasks[i].units, &tasks[0..i], tasks[i].deadline) {
-            Some(time) => times[i] = time,
-            None => return Err(tasks[i].number),
-        }
-    }
-    Ok(times)
-}
-
-// The kinds in an array.
+// The kinds at the front of an array.
 fn all_kinds(kinds: &[KindRow]) -> [KindRow; MAX_KINDS]
     requires { length kinds.now ≤ 32 }
     ensures { result ≡ padded 32 no_kind kinds.now }
 {
     let mut all = [NO_KIND; MAX_KINDS];
-    for i in 0..kinds.len() {
-        all[i] = kinds[i];
-    }
+    all[..kinds.len()].copy_from_slice(kinds);
     all
 }
 
-// A refusal of admission that names no line.
-fn breaks(cause: Cause) -> Fault
-    ensures { refusal result ≡ nowhere (number_of cause) in_admission }
-{
-    Fault {
-        cause,
-        layer: Layer::Admission,
-        place: Place::Nowhere,
+impl<'a> Accepted<'a> {
+    // A task has no response time: the heap line, the static line and the kinds come before its line.
+    fn misses(&self, task: &Task) -> Fault
+        requires { task.now.number ≤ 16 }
+        ensures { refusal result ≡ misses_deadline (2 + length self.now.kinds.now + task.now.number) }
+    {
+        let line = 2 + self.kinds.len() as u32 + task.number;
+        Fault::in_line(Layer::Admission, Cause::MissesDeadline, line, 0)
     }
-}
 
-// A task that has no response time, at its line.
-fn misses(kinds: usize, number: u32) -> Fault
-    requires { (kinds ≤ 32) × (number ≤ 16) }
-    ensures { refusal result ≡ misses_deadline (2 + kinds + number) }
-{
-    let line = 2 + kinds as u32 + number;
-    Fault {
-        cause: Cause::MissesDeadline,
-        layer: Layer::Admission,
-        place: Place::Line { line, column: 0 },
+    // Each task with its response time; the first that has none is refused.
+    fn schedule(&self, tasks: &Tasks) -> Result<[Scheduled; MAX_TASKS], Fault>
+        ensures { told result ≡ timetabled (length self.now.kinds.now) tasks.now.list.now (responses [] tasks.now.list.now) }
+    {
+        let mut scheduled = [UNSCHEDULED; MAX_TASKS];
+        for (i, task) in tasks.list.iter().enumerate() {
+            let response = tasks
+                .best(i)
+                .settle(task.units, task.deadline)
+                .ok_or(self.misses(task))?;
+            scheduled[i] = Scheduled {
+                task: *task,
+                response,
+            };
+        }
+        Ok(scheduled)
     }
-}
 
-// What the heap has room for, once it is known how late a flip can be.
-fn room_of(heap: HeapRow, statics: StaticRow, tasks: &[Task], lateness: u32) -> Room
-    requires few { Few tasks.now }
-    requires small { (statics.words ≤ 8192) × (statics.objects ≤ 8192) }
-    ensures value { result ≡ room_for heap statics tasks.now lateness }
-    ensures words { result.live_words ≤ 300000000000 }
-    ensures objects { result.live_objects ≤ 300000000000 }
-{
-    Room {
-        space: heap.space,
-        handles: heap.handles,
-        live_words: live_bound(Share::Words, statics.words, tasks),
-        live_objects: live_bound(Share::Objects, statics.objects, tasks),
-        lateness,
+    // What the heap has room for beside these tasks, once it is known how late a flip can be.
+    fn room_for(&self, tasks: &Tasks<'a>, lateness: u32) -> Shared<'a>
+        requires { lateness ≤ 1000000 }
+        ensures room { result.room ≡ room_for self.now.heap self.now.statics tasks.now.list.now lateness }
+        ensures tasks { result.tasks.list.now ≡ tasks.now.list.now }
+    {
+        Shared {
+            room: Room {
+                space: self.heap.space,
+                handles: self.heap.handles,
+                live_words: tasks.live_bound(Share::Words, self.statics.words),
+                live_objects: tasks.live_bound(Share::Objects, self.statics.objects),
+                lateness,
+            },
+            tasks: *tasks,
+        }
     }
-}
 
-// The bounds of tasks in rank order, or the first that breaks.
-fn weigh(heap: HeapRow, statics: StaticRow, kinds: usize, tasks: &[Task]) -> Result<Bounds, Fault>
-    requires few { Few tasks.now }
-    requires timed { Timed tasks.now }
-    requires numbers { Numbers tasks.now }
-    requires small { (statics.words ≤ 8192) × (statics.objects ≤ 8192) }
-    requires kinds { kinds ≤ 32 }
-    ensures value { told result ≡ weighed heap statics kinds tasks.now }
-    ensures words { IfOk result (λ b. (b.room.live_words ≤ heap.space) × (b.room.space ≡ heap.space)) }
-    ensures objects { IfOk result (λ b. (b.room.live_objects ≤ heap.handles) × (b.room.handles ≡ heap.handles)) }
-{
-    let responses = match response_times(tasks) {
-        Ok(times) => times,
-        Err(number) => return Err(misses(kinds, number)),
-    };
-    let Some(lateness) = settle(1, tasks, MAX_PERIOD) else {
-        return Err(breaks(Cause::CollectorOverload));
-    };
-    let room = room_of(heap, statics, tasks, lateness);
-    let Some(span) = room.span(tasks) else {
-        return Err(breaks(Cause::CollectorOverload));
-    };
-    if !room.words_fit(tasks, span) {
-        return Err(breaks(Cause::TooFewWords));
+    // The bounds of the tasks in rank order, or the first that breaks.
+    fn weigh(&self, tasks: &Tasks) -> Result<Bounds, Fault>
+        ensures value { told result ≡ weighed self.now.heap self.now.statics (length self.now.kinds.now) tasks.now.list.now }
+        ensures words { IfOk result (λ b. (b.room.live_words ≤ self.now.heap.space) × (b.room.space ≡ self.now.heap.space)) }
+        ensures objects { IfOk result (λ b. (b.room.live_objects ≤ self.now.heap.handles) × (b.room.handles ≡ self.now.heap.handles)) }
+    {
+        let scheduled = self.schedule(tasks)?;
+        let overload = Fault::nowhere(Layer::Admission, Cause::CollectorOverload);
+        let lateness = tasks.settle(1, MAX_PERIOD).ok_or(overload)?;
+        let shared = self.room_for(tasks, lateness);
+        let span = shared.span().ok_or(overload)?;
+        if !shared.words_fit(span) {
+            return Err(Fault::nowhere(Layer::Admission, Cause::TooFewWords));
+        }
+        if !shared.handles_fit(span) {
+            return Err(Fault::nowhere(Layer::Admission, Cause::TooFewHandles));
+        }
+        Ok(Bounds {
+            tasks: scheduled,
+            room: shared.room,
+            span,
+            period: shared.longest(span),
+        })
     }
-    if !room.handles_fit(tasks, span) {
-        return Err(breaks(Cause::TooFewHandles));
-    }
-    let period = room.longest(tasks, span);
-    Ok(Bounds {
-        responses,
-        room,
-        span,
-        period,
-    })
-}
 
-// The figures of a table, or the first bound that breaks.
-pub(crate) fn work_out(
-    heap: HeapRow,
-    statics: StaticRow,
-    kinds: &[KindRow],
-    rows: &[TaskRow],
-) -> Result<Figures, Fault>
-    requires { RowsSized (record { heap = heap; statics = statics; kinds = kinds.now; tasks = rows.now }) }
-    ensures { told result ≡ admission (record { heap = heap; statics = statics; kinds = kinds.now; tasks = rows.now }) }
-{
-    let tasks = rank_tasks(rows);
-    let bounds = weigh(heap, statics, kinds.len(), &tasks[0..rows.len()])?;
-    let all = all_kinds(kinds);
-    let responses = bounds.responses;
-    let room = bounds.room;
-    Ok(Figures {
-        heap,
-        statics,
-        kinds: all,
-        kind_count: kinds.len() as u32,
-        tasks,
-        task_count: rows.len() as u32,
-        responses,
-        live_words: room.live_words as u32,
-        live_objects: room.live_objects as u32,
-        steps: room.steps() as u32,
-        lateness: room.lateness,
-        span: bounds.span,
-        period: bounds.period,
-    })
+    // The figures of the table, or the first bound that breaks.
+    pub(crate) fn figures(&self) -> Result<Figures, Fault>
+        ensures { told result ≡ admission (record { heap = self.now.heap; statics = self.now.statics; kinds = self.now.kinds.now; tasks = self.now.tasks.now }) }
+    {
+        let ranked = self.rank_tasks();
+        let Bounds {
+            tasks,
+            room,
+            span,
+            period,
+        } = self.weigh(&Tasks { list: &ranked })?;
+        Ok(Figures {
+            heap: self.heap,
+            statics: self.statics,
+            kinds: all_kinds(self.kinds),
+            kind_count: self.kinds.len() as u32,
+            tasks,
+            task_count: self.tasks.len() as u32,
+            live_words: room.live_words as u32,
+            live_objects: room.live_objects as u32,
+            steps: room.steps() as u32,
+            lateness: room.lateness,
+            span,
+            period,
+        })
+    }
 }

@@ -279,7 +279,7 @@ firsts_apart f n [] a = tt
 firsts_apart f n (y ∷ ys) a =
     (λ e. let r : n ≡ a.0.0 = ap (λ u. u.rank) (e ∙ a.0.2) in omega (arith, a.0.1), firsts_apart f n ys a.1)
 
-pub firsts_more : (f : Figures) (n : ℕ) (waits : List Release) → Firsts f n waits → Firsts f (n + 1) (inserted sooner (nth f n 0) waits)
+firsts_more : (f : Figures) (n : ℕ) (waits : List Release) → Firsts f n waits → Firsts f (n + 1) (inserted sooner (nth f n 0) waits)
 firsts_more f n waits s =
     record {
       order = rising_inserted (nth f n 0) waits s.order (firsts_apart f n waits s.each);
@@ -291,6 +291,11 @@ firsts_more f n waits s =
             | inr d ↦ inserted_has (nth f n 0) (nth f i 0) waits (has_tail (nth f n 0) (nth f i 0) waits (s.has i (omega arith)))
           ];
     }
+
+-- the first release of one more source waits
+pub first_put : (f g : Figures) (n : ℕ) (before after : List Release) → g ≡ f → after ≡ inserted sooner (nth g n 0) before → Firsts f n before → Firsts f (n + 1) after
+first_put f g n before after e w s =
+    subst (Firsts f (n + 1)) (sym (w ∙ ap (λ h. inserted sooner (nth h n 0) before) e)) (firsts_more f n before s)
 
 pub some_period : (f : Figures) → Listed f → (i : ℕ) → i ≤ f.task_count → 1 ≤ period_at f i
 some_period f l i h =

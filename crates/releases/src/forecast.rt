@@ -19,70 +19,60 @@ pub struct Outlook {
     pub releases: [Release; FORECAST],
 }
 
-#[derive(Clone, Copy)]
-pub enum Forecast {
-    Admitted(Outlook),
-    Refused(Fault),
-}
-
-pub fn foretell(text: &[u8]) -> Forecast
+pub fn foretell(text: &[u8]) -> Result<Outlook, Fault>
     ensures { Foretold (admitted text.now 32 16) result }
 {
     let mut kinds = [NO_KIND; MAX_KINDS];
     let mut tasks = [NO_TASK; MAX_TASKS];
     let mut plan = Plan::blank();
-    if let Err(fault) = admit(text, &mut kinds, &mut tasks, &mut plan) {
-        return Forecast::Refused(fault);
-    }
-    match first_releases(&plan) {
-        Some(releases) => {
-            let figures = plan.figures();
-            let period = figures.period;
-            let lateness = figures.lateness;
-            let steps = figures.steps;
-            let span = figures.span;
-            Forecast::Admitted(Outlook {
-                period,
-                lateness,
-                steps,
-                span,
-                releases,
-            })
-        }
-        None => unreachable(),
-    }
+    admit(text, &mut kinds, &mut tasks, &mut plan)?;
+    let releases = first_releases(&plan).unwrap();
+    let figures = plan.figures();
+    Ok(Outlook {
+        period: figures.period,
+        lateness: figures.lateness,
+        steps: figures.steps,
+        span: figures.span,
+        releases,
+    })
 }
 
 // Lines of numbers between commas; a task by its number, and 0 for the collector.
+impl fmt::Display for Outlook {
+    fn fmt<W: fmt::Write>(&self, f: &mut fmt::Formatter<W>) -> fmt::Result {
+        let Outlook {
+            period,
+            lateness,
+            steps,
+            span,
+            releases,
+        } = self;
+        writeln!(f, "plan,{period},{lateness},{steps},{span}")?;
+        for release in releases {
+            let tick = release.tick;
+            match release.source {
+                Source::Task(number) => writeln!(f, "{tick},{number}")?,
+                Source::Collector => writeln!(f, "{tick},0")?,
+            }
+        }
+        Ok(())
+    }
+}
+
+// What is printed of a text: the outlook, or a line of the refusal's numbers.
+#[derive(Clone, Copy)]
+pub struct Forecast(pub Result<Outlook, Fault>);
+
 impl fmt::Display for Forecast {
     fn fmt<W: fmt::Write>(&self, f: &mut fmt::Formatter<W>) -> fmt::Result {
-        match self {
-            Forecast::Refused(fault) => {
+        match &self.0 {
+            Ok(outlook) => outlook.fmt(f),
+            Err(fault) => {
                 let number = fault.number();
                 let line = fault.place_number();
                 let column = fault.column();
                 writeln!(f, "refused,{number},{line},{column}")
             }
-            Forecast::Admitted(outlook) => {
-                let period = outlook.period;
-                let lateness = outlook.lateness;
-                let steps = outlook.steps;
-                let span = outlook.span;
-                writeln!(f, "plan,{period},{lateness},{steps},{span}")?;
-                for release in outlook.releases {
-                    let tick = release.tick;
-                    let task = task_number(release.source);
-                    writeln!(f, "{tick},{task}")?;
-                }
-                Ok(())
-            }
         }
-    }
-}
-
-fn task_number(source: Source) -> u8 {
-    match source {
-        Source::Task(number) => number,
-        Source::Collector => 0,
     }
 }

@@ -3,7 +3,7 @@
 
 ghost use Rattle.std.specs.Prelude.{ℕ, ◌-◌, ◌≤◌, length, IfOk};
 
-use releases::foretell;
+use releases::{Forecast, foretell};
 use std::io::{Read, Write};
 
 // What stands before the first of these bytes, and what stands after it.
@@ -40,7 +40,7 @@ fn show_case<'a>(rt: &HostRuntime, input: &'a [u8]) -> anyhow::Result<&'a [u8]>
     rt.print("== ")?;
     rt.stdout().write_all(name)?;
     rt.print("\n")?;
-    rt.print(foretell(text))?;
+    rt.print(Forecast(foretell(text)))?;
     let (_, rest) = split_at_byte(rest, b'\n');
     Ok(rest)
 }

@@ -1,5 +1,5 @@
 // The default table is read, line by line, and admitted.
-use admission::{Figures, Plan, Task, admit};
+use admission::{Figures, Plan, Scheduled, Task, admit};
 use fault::Fault;
 use queue::{Release, Source};
 use releases::first_releases;
@@ -72,13 +72,13 @@ fn times(stretch: u32, period: u32) -> u32 {
 // What these tasks ask for in a stretch of time, term by term: each job its part.
 fn show_terms<F: Fn(&Task) -> u32>(
     rt: &HostRuntime,
-    tasks: &[Task],
+    tasks: &[Scheduled],
     stretch: u32,
     part: F,
 ) -> io::Result<()>
     requires { F.IsAlwaysCallable part }
 {
-    for task in tasks {
+    for Scheduled { task, .. } in tasks {
         if task.number != 0 {
             let count = times(stretch, task.period);
             let each = part(task);
@@ -132,14 +132,15 @@ fn show_period(rt: &HostRuntime, figures: &Figures) -> io::Result<()> {
 }
 
 fn show_ranks(rt: &HostRuntime, figures: &Figures) -> io::Result<()> {
-    for (i, (task, response)) in figures.tasks.iter().zip(figures.responses).enumerate() {
+    for (i, scheduled) in figures.tasks.iter().enumerate() {
+        let Scheduled { task, response } = *scheduled;
         let Task {
             number,
             deadline,
             units,
             ..
         } = task;
-        if *number != 0 {
+        if number != 0 {
             print!(rt;
                 "plan: task {number} answers within {response} of its {deadline} ticks: {units}"
             )?;

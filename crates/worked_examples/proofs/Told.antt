@@ -11,7 +11,7 @@ use Rattle.admission.specs.declared.task.Task as plans_task
 use Rattle.admission.specs.declared.figures.Figures.{Figures}
 use Rattle.admission.specs.Ranks.{ranked}
 use Rattle.admission.specs.Search.{least}
-use Rattle.admission.specs.Admission.{admission, misses_deadline, room_for, figures_of, padded, done_in, responses}
+use Rattle.admission.specs.Admission.{admission, misses_deadline, room_for, figures_of, padded, scheduled, unscheduled, done_in, responses}
 use Rattle.admission.proofs.Rounding.{up_covers}
 use Rattle.admission.proofs.Searching.{none_is}
 use Rattle.admission.proofs.Verdicts.{says_7, says_8_flip, says_9, says_10}
@@ -119,9 +119,9 @@ read =
 
 abbrev plan_figures : Figures
 plan_figures =
-    figures_of (table 64 40 5 20) (tasks 5 20)
+    figures_of (table 64 40 5 20)
     (record {
-      responses = padded 16 0 (5 ∷ 25 ∷ []);
+      tasks = padded 16 unscheduled (scheduled (tasks 5 20) (5 ∷ 25 ∷ []));
       room = room_for (table 64 40 5 20).heap (table 64 40 5 20).statics (tasks 5 20) 26;
       span = 180;
       period = 374;

@@ -8,7 +8,7 @@ use Rattle.admission.specs.declared.task.Task.{Task}
 use Rattle.admission.specs.declared.figures.Bounds.{Bounds}
 use Rattle.admission.specs.Ranks.{ranked}
 use Rattle.admission.specs.Search.{first_from, least, largest}
-use Rattle.admission.specs.Admission.{admission, weighed, figured, figures_of, responses, done_in, room_for, steps_of, words_fit, handles_fit, fits, padded}
+use Rattle.admission.specs.Admission.{admission, weighed, figured, figures_of, responses, done_in, room_for, steps_of, words_fit, handles_fit, fits, padded, scheduled, unscheduled}
 use Rattle.admission.proofs.Plans.{weighed_part}
 use Rattle.admission.proofs.Ranking.{few_ranked}
 use Rattle.admission.proofs.Rising.{EachSized}
@@ -71,11 +71,10 @@ limits s n c d s1 s2 n1 n2 c1 c2 d1 d2 =
 
 module _ (rows : Rows) (ts : List Task) (is : ranked rows.tasks ≡ ts) where
   -- the bounds of the tasks say what admission does
-  pub refuses : (v : Told _) → weighed rows.heap rows.statics (length rows.kinds) ts ≡ v → admission rows ≡ figured rows ts v
+  pub refuses : (v : Told _) → weighed rows.heap rows.statics (length rows.kinds) ts ≡ v → admission rows ≡ figured rows v
   refuses v e =
       sym (weighed_part rows ts (weighed rows.heap rows.statics (length rows.kinds) ts) (sym is) refl)
-      ∙ ap (λ u. figured rows u (weighed rows.heap rows.statics (length rows.kinds) ts)) is
-      ∙ ap (figured rows ts) e
+      ∙ ap (figured rows) e
 
   pub admits :
       (rs : List ℕ) (f q p : ℕ)
@@ -89,13 +88,13 @@ module _ (rows : Rows) (ts : List Task) (is : ranked rows.tasks ≡ ts) where
       → p ≤ 1000000
       → fits (room_for rows.heap rows.statics ts f) ts p ≡ true
       → fits (room_for rows.heap rows.statics ts f) ts (p + 1) ≡ false
-      → admission rows ≡ answered (figures_of rows ts (record { responses = padded 16 0 rs; room = room_for rows.heap rows.statics ts f; span = q; period = p }))
+      → admission rows ≡ answered (figures_of rows (record { tasks = padded 16 unscheduled (scheduled ts rs); room = room_for rows.heap rows.statics ts f; span = q; period = p }))
   admits rs f q p l times late whole w h from to yes_p no_p =
       let m = room_for rows.heap rows.statics ts f in
       let sized = subst EachSized is (few_ranked rows.tasks (tabled rows l)).1 in
       let e : p ≡ largest (fits m ts) q 1000000 = largest_is (fits m ts) q 1000000 p from to yes_p (λ j i u t. both_ways (fits m ts (p + 1)) no_p (fits_fall m ts (p + 1) j sized (omega arith) t)) in
       let v = says_plan rows.heap rows.statics (length rows.kinds) ts rs f m times late refl q whole w h in
-      let with : ℕ → Bounds = λ n. record { responses = padded 16 0 rs; room = m; span = q; period = n } in
+      let with : ℕ → Bounds = λ n. record { tasks = padded 16 unscheduled (scheduled ts rs); room = m; span = q; period = n } in
       refuses (answered (with p)) (v ∙ ap (λ n. answered (with n)) (sym e))
 
   pub plans :
@@ -113,7 +112,7 @@ module _ (rows : Rows) (ts : List Task) (is : ranked rows.tasks ≡ ts) where
       → Plans rows p f (steps_of (room_for rows.heap rows.statics ts f)) q
   plans rs f q p l times late whole w h from to yes_p no_p =
       record {
-        figures = figures_of rows ts (record { responses = padded 16 0 rs; room = room_for rows.heap rows.statics ts f; span = q; period = p });
+        figures = figures_of rows (record { tasks = padded 16 unscheduled (scheduled ts rs); room = room_for rows.heap rows.statics ts f; span = q; period = p });
         admitted = admits rs f q p l times late whole w h from to yes_p no_p;
         period = refl;
         lateness = refl;

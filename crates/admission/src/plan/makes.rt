@@ -1,5 +1,4 @@
 ghost use Rattle.std.specs.Prelude.{◌≡◌, ◌≤◌, length, OnOk};
-ghost use Rattle.admission.specs.Sound.{Sound};
 ghost use Rattle.admission.specs.Planned.{figures_in, blank_figures};
 ghost use Rattle.fault.specs.Told.{told};
 ghost use Rattle.table.specs.Checking.{check};
@@ -7,9 +6,9 @@ ghost use Rattle.table.specs.Filling.{filled};
 ghost use Rattle.admission.specs.Admitted.{admitted, done, planned};
 
 use super::Plan;
+use crate::accepted::Accepted;
 use crate::figures::Figures;
-use crate::task::NO_TASK;
-use crate::work::work_out;
+use crate::task::UNSCHEDULED;
 use fault::Fault;
 use table::rows::{HeapRow, KindRow, MAX_KINDS, MAX_TASKS, NO_KIND, StaticRow, TaskRow};
 use table::{Table, read};
@@ -25,9 +24,8 @@ static BLANK: Figures = Figures {
     },
     kinds: [NO_KIND; MAX_KINDS],
     kind_count: 0,
-    tasks: [NO_TASK; MAX_TASKS],
+    tasks: [UNSCHEDULED; MAX_TASKS],
     task_count: 0,
-    responses: [0; MAX_TASKS],
     live_words: 0,
     live_objects: 0,
     steps: 0,
@@ -35,14 +33,6 @@ static BLANK: Figures = Figures {
     span: 0,
     period: 0,
 };
-
-// A plan of sound figures.
-fn seal(figures: Figures) -> Plan
-    requires { Sound figures }
-    ensures { figures_in result ≡ figures }
-{
-    Plan { figures }
-}
 
 // Reads a table and works out the longest period of the collector. The rows go to the front of the two lists once the text is accepted, and stay
 // if a bound then breaks; the plan is blank after every refusal.
@@ -65,8 +55,15 @@ pub fn admit(
         kind_count,
         task_count,
     } = read(text, kinds, tasks)?;
-    let figures = work_out(heap, statics, &kinds[0..kind_count], &tasks[0..task_count])?;
-    *plan = seal(figures);
+    let accepted = Accepted {
+        heap,
+        statics,
+        kinds: &kinds[..kind_count],
+        tasks: &tasks[..task_count],
+    };
+    *plan = Plan {
+        figures: accepted.figures()?,
+    };
     Ok(())
 }
 
@@ -75,8 +72,7 @@ impl Plan {
     pub fn blank() -> Plan
         ensures { figures_in result ≡ blank_figures }
     {
-        let figures = BLANK;
-        Plan { figures }
+        Plan { figures: BLANK }
     }
 
     // What admission worked out; all 0 in a blank plan.

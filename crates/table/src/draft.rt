@@ -22,6 +22,7 @@ pub(crate) struct Draft {
 
 impl Draft {
     // The lines of a text, where the caller has room for so many kinds and tasks.
+    #[tactic(auto, using(crate::proofs::Lexed::none_length), unfolding(crate::specs::Checking::check_lines, crate::specs::Checking::finish))]
     pub(crate) fn read(text: &[u8], kind_room: usize, task_room: usize) -> Result<Draft, Fault>
         requires { length text.now ≤ 8192 }
         ensures answer { check_lines kind_room task_room text.now ≡ drafted (told result) }

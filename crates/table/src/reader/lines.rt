@@ -100,6 +100,7 @@ impl Reader<'_> {
     }
 
     // The one line that begins with this word.
+    #[tactic(auto, unfolding(crate::specs::Checking::one_line))]
     pub(crate) fn line<R: Row>(&mut self, word: &[u8]) -> Result<R, Fault>
         ensures { one_line word.now R.Row.reads self.old ≡ placed (told result) self.new }
     {
@@ -110,6 +111,7 @@ impl Reader<'_> {
     }
 
     // Lines that begin with a word, as many as there is room for.
+    #[tactic(auto, using(crate::proofs::Lined::lines_turn, crate::proofs::Lined::lines_fail, crate::proofs::Lined::lines_full, crate::proofs::Lined::lines_other))]
     pub(crate) fn rows<R: Row, const N: usize>(
         &mut self,
         word: &[u8],

@@ -29,13 +29,13 @@ impl Draft {
         ensures few { IfOk result (λ d. (array_vec_len d.kinds ≤ kind_room) × (array_vec_len d.tasks ≤ task_room)) }
     {
         let mut reader = Reader::over(text);
-        let heap = reader.line::<HeapRow>(b"heap")?;
-        let statics = reader.line::<StaticRow>(b"static")?;
-        let kinds: ArrayVec<KindRow, MAX_KINDS> = reader.rows(b"kind", kind_room)?;
+        let heap = reader.line::<HeapRow>()?;
+        let statics = reader.line::<StaticRow>()?;
+        let kinds: ArrayVec<KindRow, MAX_KINDS> = reader.rows(kind_room)?;
         if kinds.is_empty() {
             return Err(reader.refuse_line());
         }
-        let tasks: ArrayVec<TaskRow, MAX_TASKS> = reader.rows(b"task", task_room)?;
+        let tasks: ArrayVec<TaskRow, MAX_TASKS> = reader.rows(task_room)?;
         if tasks.is_empty() || !reader.is_done() {
             return Err(reader.refuse_line());
         }

@@ -19,7 +19,7 @@ use fault::{Cause, Fault, Layer};
 use rows::{HeapRow, KindRow, MAX_TEXT, StaticRow, TaskRow};
 
 // A table, but for the rows of its kinds and tasks, which stand at the front of the caller's lists.
-#[derive(Clone, Copy)]
+#[derive(Clone, Copy, PartialEq, Eq, Debug)]
 pub struct Table {
     pub heap: HeapRow,
     pub statics: StaticRow,

@@ -3,9 +3,6 @@ use Rattle.std.proofs.Common.{◌≡◌, ℕ, ◌+◌, ◌*◌, ◌^◌, ◌<◌
 use Rattle.std.proofs.lemmas.Fmt.{decimal_digit, length-decimal-le}
 use Rattle.table.proofs.Spelling.{decimal_long}
 
-pub length_few : (n : ℕ) → n < 2 ^ 32 → length (decimal n) ≤ 10
-length_few n h = length-decimal-le 10 n (omega arith) (omega arith) (omega arith)
-
 -- a number between two powers of ten
 length_power : (n k : ℕ) → n < 2 ^ 32 → k < 10 → 10 ^ k ≤ n → n < 10 * 10 ^ k → length (decimal n) ≡ k + 1
 length_power n k s b h t =

@@ -1,9 +1,6 @@
 pub mod Lexed
-pub mod Steps
 pub mod Lined
 pub mod Decimal
-pub mod Consuming
-pub mod Roads
 pub mod Spelling
 pub mod Sound
 pub mod Fits

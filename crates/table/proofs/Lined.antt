@@ -8,10 +8,6 @@ use Rattle.table.specs.Checking.{Spot, Read, then, leads, past_word, more_lines}
 abbrev pub following : {R : Type 0} → List R → Read (List R) → Read (List R)
 following qs r = then r (λ rs s. answered (qs ++ rs, s))
 
-pub following_none : {R : Type 0} (r : Read (List R)) → r ≡ following [] r
-following_none (answered x) = refl
-following_none (refused e) = refl
-
 following_push : {R : Type 0} (qs : List R) (q : R) (r : Read (List R)) → following qs (then r (λ rs s. answered (q ∷ rs, s))) ≡ following (qs ++ (q ∷ [])) r
 following_push qs q (answered x) = ap (λ y. answered (y, x.1)) (sym (append_assoc qs (q ∷ []) x.0))
 following_push qs q (refused e) = refl

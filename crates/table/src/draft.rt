@@ -22,19 +22,20 @@ pub(crate) struct Draft {
 
 impl Draft {
     // The lines of a text, where the caller has room for so many kinds and tasks.
+    #[tactic(auto, using(crate::proofs::Lexed::none_length), unfolding(crate::specs::Checking::check_lines, crate::specs::Checking::finish))]
     pub(crate) fn read(text: &[u8], kind_room: usize, task_room: usize) -> Result<Draft, Fault>
         requires { length text.now ≤ 8192 }
         ensures answer { check_lines kind_room task_room text.now ≡ drafted (told result) }
         ensures few { IfOk result (λ d. (array_vec_len d.kinds ≤ kind_room) × (array_vec_len d.tasks ≤ task_room)) }
     {
         let mut reader = Reader::over(text);
-        let heap = reader.line::<HeapRow>(b"heap")?;
-        let statics = reader.line::<StaticRow>(b"static")?;
-        let kinds: ArrayVec<KindRow, MAX_KINDS> = reader.rows(b"kind", kind_room)?;
+        let heap = reader.line::<HeapRow>()?;
+        let statics = reader.line::<StaticRow>()?;
+        let kinds: ArrayVec<KindRow, MAX_KINDS> = reader.rows(kind_room)?;
         if kinds.is_empty() {
             return Err(reader.refuse_line());
         }
-        let tasks: ArrayVec<TaskRow, MAX_TASKS> = reader.rows(b"task", task_room)?;
+        let tasks: ArrayVec<TaskRow, MAX_TASKS> = reader.rows(task_room)?;
         if tasks.is_empty() || !reader.is_done() {
             return Err(reader.refuse_line());
         }

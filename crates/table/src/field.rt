@@ -3,7 +3,7 @@ ghost use Rattle.std.specs.Prelude.{◌≡◌, ℕ, ◌≤◌, length, false, if
 ghost use Rattle.std.specs.Str.{all_ascii_digits};
 ghost use Rattle.std.specs.Range.{range_inclusive_start, range_inclusive_end, range_inclusive_exhausted};
 ghost use Rattle.fault.specs.Told.{told, number_of, refusal};
-ghost use Rattle.table.specs.Checking.{misread, is_number, shaped, digits_value, field_value};
+ghost use Rattle.table.specs.Checking.{misread, is_number, shaped, digits_value, within, field_value};
 
 use crate::lexer::Class;
 use crate::rows::MAX_DIGITS;
@@ -44,6 +44,14 @@ fn sum(digits: &[u8]) -> Option<u64>
     Some(n)
 }
 
+// A number, if it is within limits.
+fn limited(n: u64, limits: RangeInclusive<u32>) -> Option<u32>
+    requires { range_inclusive_exhausted limits ≡ false }
+    ensures { result ≡ (if within (range_inclusive_start limits) (range_inclusive_end limits) n then Some n else None) }
+{
+    u32::try_from(n).ok().filter(|n| limits.contains(n))
+}
+
 impl Field<'_> {
     // Its number, if it is one.
     fn value(&self) -> Option<u64>
@@ -64,14 +72,11 @@ impl Field<'_> {
     }
 
     // Its number, within limits.
-    pub(crate) fn limited(&self, limits: RangeInclusive<u32>) -> Result<u32, Fault>
+    pub(crate) fn number(&self, limits: RangeInclusive<u32>) -> Result<u32, Fault>
         requires { range_inclusive_exhausted limits ≡ false }
         ensures { told result ≡ field_value (range_inclusive_start limits) (range_inclusive_end limits) self.now.line self.now.column self.now.part.now }
     {
         let n = self.value().ok_or(self.refuse(Cause::NotANumber))?;
-        u32::try_from(n)
-            .ok()
-            .filter(|n| limits.contains(n))
-            .ok_or(self.refuse(Cause::OutsideLimits))
+        limited(n, limits).ok_or(self.refuse(Cause::OutsideLimits))
     }
 }

@@ -19,7 +19,7 @@ use fault::{Cause, Fault, Layer};
 use rows::{HeapRow, KindRow, MAX_TEXT, StaticRow, TaskRow};
 
 // A table, but for the rows of its kinds and tasks, which stand at the front of the caller's lists.
-#[derive(Clone, Copy)]
+#[derive(Clone, Copy, PartialEq, Eq, Debug)]
 pub struct Table {
     pub heap: HeapRow,
     pub statics: StaticRow,
@@ -36,6 +36,7 @@ fn whole(text: &[u8]) -> bool
 
 // Reads a table. Its kinds and tasks go to the front of the two lists once the whole text is accepted; a text that
 // is refused leaves both as they were.
+#[tactic(auto, using(crate::proofs::Loads::exact), unfolding(crate::specs::Checking::check))]
 pub fn read(text: &[u8], kinds: &mut [KindRow], tasks: &mut [TaskRow]) -> Result<Table, Fault>
     ensures answer { told result ≡ summary (check text.now (length kinds.old) (length tasks.old)) }
     ensures kinds { kinds.new ≡ filled (λ rows. rows.kinds) (check text.now (length kinds.old) (length tasks.old)) kinds.old }

@@ -7,6 +7,7 @@ mod tests {
     use fault::{Fault, Layer};
     use std::process::Abort;
     use std::test::Fail;
+    use table::Table;
     use table::rows::{
         HeapRow, KindRow, MAX_KINDS, MAX_TASKS, NO_KIND, NO_TASK, StaticRow, TaskRow,
     };
@@ -473,9 +474,15 @@ mod tests {
         let mut tasks = [STRAY_TASK; 2];
         let text: ArrayVec<u8, 256> = good_lines(4)?;
         let table = table::read(&text, &mut kinds, &mut tasks)?;
-        assert!(rt; table.heap == HEAP && table.statics == STATICS);
-        assert!(rt; table.kind_count == 1 && kinds == [KIND, STRAY_KIND]);
-        assert!(rt; table.task_count == 1 && tasks == [TASK, STRAY_TASK]);
+        let counted = Table {
+            heap: HEAP,
+            statics: STATICS,
+            kind_count: 1,
+            task_count: 1,
+        };
+        assert_eq!(rt; table, counted);
+        assert_eq!(rt; kinds, [KIND, STRAY_KIND]);
+        assert_eq!(rt; tasks, [TASK, STRAY_TASK]);
         Ok(())
     }
 

@@ -1,24 +1,13 @@
 -- Text that grows at its end.
-use Rattle.std.proofs.Common.{◌≡◌, ℕ, ◌+◌, ◌<◌, ◌≤◌, List, [], ◌∷◌, ◌++◌, length, get_or, take, codes, decimal, sym, refl, ap, ◌∙◌}
+use Rattle.std.proofs.Common.{◌≡◌, ℕ, List, [], ◌∷◌, ◌++◌, length, take, min, codes, decimal, sym, refl, ap, ◌∙◌}
+use Rattle.std.proofs.Math.Nat.{min_comm}
 use Rattle.std.specs.List.{flat_map}
-use Rattle.std.proofs.lemmas.List.{append_assoc, append-nil, flat_map_more, take_more, take_all}
+use Rattle.std.proofs.lemmas.List.{append_assoc, append-nil, take_min}
 use Rattle.table.specs.Format.{Rows, heap_numbers, static_numbers, kind_numbers, task_numbers, field, fields, line, lines, render}
 
 -- a comma and a number
 abbrev pub comma : ℕ → List ℕ
 comma n = 44 ∷ decimal n
-
--- a comma and digits
-pub push_comma : (t t1 t2 : List ℕ) (n : ℕ) → t1 ≡ t ++ (44 ∷ []) → t2 ≡ t1 ++ decimal n → t2 ≡ t ++ comma n
-push_comma t t1 t2 n e f = f ∙ ap (λ x. x ++ decimal n) e ∙ append_assoc t (44 ∷ []) (decimal n)
-
--- the rows or the numbers of a list, each by its text: one more, and all
-pub joined_step : {X : Type 0} (f : X → List ℕ) (t t1 t2 : List ℕ) (xs : List X) (i : ℕ) (d : X) → i < length xs → t1 ≡ t ++ flat_map f (take i xs) → t2 ≡ t1 ++ f (get_or xs i d) → t2 ≡ t ++ flat_map f (take (i + 1) xs)
-joined_step f t t1 t2 xs i d h e g =
-    g ∙ ap (λ x. x ++ f (get_or xs i d)) e ∙ flat_map_more f t (take i xs) (get_or xs i d) ∙ ap (λ x. t ++ flat_map f x) (sym (take_more xs i d h))
-
-pub joined_all : {X : Type 0} (f : X → List ℕ) (t t1 : List ℕ) (xs : List X) (i : ℕ) → length xs ≤ i → t1 ≡ t ++ flat_map f (take i xs) → t1 ≡ t ++ flat_map f xs
-joined_all f t t1 xs i h e = e ∙ ap (λ x. t ++ flat_map f x) (take_all i xs h)
 
 -- the numbers of a line before what follows
 pub fields_joined : (ns text : List ℕ) → fields ns text ≡ flat_map comma ns ++ (10 ∷ text)
@@ -27,10 +16,10 @@ fields_joined [] text = refl
 fields_joined (n ∷ ns) text =
     ap (λ x. 44 ∷ (decimal n ++ x)) (fields_joined ns text) ∙ sym (append_assoc (comma n) (flat_map comma ns) (10 ∷ text))
 
-pub line_parts : (t t1 t2 t3 w ns : List ℕ) → t1 ≡ t ++ w → t2 ≡ t1 ++ flat_map comma ns → t3 ≡ t2 ++ (10 ∷ []) → t3 ≡ t ++ (w ++ fields ns [])
-line_parts t t1 t2 t3 w ns e f g =
-    g ∙ ap (λ x. x ++ (10 ∷ [])) (f ∙ ap (λ x. x ++ flat_map comma ns) e)
-    ∙ append_assoc (t ++ w) (flat_map comma ns) (10 ∷ []) ∙ append_assoc t w (flat_map comma ns ++ (10 ∷ []))
+-- a line, put down after other text
+pub line_put : (t w ns : List ℕ) → ((t ++ w) ++ flat_map comma ns) ++ (10 ∷ []) ≡ t ++ line w ns []
+line_put t w ns =
+    append_assoc (t ++ w) (flat_map comma ns) (10 ∷ []) ∙ append_assoc t w (flat_map comma ns ++ (10 ∷ []))
     ∙ ap (λ x. t ++ (w ++ x)) (sym (fields_joined ns []))
 
 -- the lines of rows before what follows
@@ -63,3 +52,7 @@ table_parts rows t1 t2 t3 t4 e1 e2 e3 e4 =
     ∙ ap (λ x. h ++ (s ++ x)) (sym (lines_joined (codes "kind") kind_numbers rows.kinds t))
     ∙ ap (λ x. h ++ x) (sym (line_joins (codes "static") (static_numbers rows.statics) k))
     ∙ sym (line_joins (codes "heap") (heap_numbers rows.heap) (line (codes "static") (static_numbers rows.statics) k))
+
+-- the first of some rows
+pub first_rows : {R : Type 0} (n : ℕ) (rs : List R) → take (min (length rs) n) rs ≡ take n rs
+first_rows n rs = ap (λ m. take m rs) (min_comm (length rs) n) ∙ take_min n rs

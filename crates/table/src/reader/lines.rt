@@ -1,5 +1,5 @@
 // The lines of a table.
-ghost use Rattle.std.specs.Prelude.{◌≡◌, ℕ, ◌-◌, ◌^◌, ◌≤◌, min, IfOk};
+ghost use Rattle.std.specs.Prelude.{◌≡◌, ℕ, ◌-◌, ◌^◌, ◌≤◌, min, List, codes, IfOk};
 ghost use Rattle.fault.specs.Told.{told};
 ghost use Rattle.table.specs.Checking.{Spot, Read, placed, number as read_number, consumer_low, consumer_high, one_line, more_lines, read_heap, read_static, read_kind, read_task};
 ghost use Rattle.table.specs.Drafting.{listed};
@@ -15,7 +15,13 @@ use fault::Fault;
 
 // A row that stands in a line.
 pub(crate) trait Row: Copy + Default {
+    ghost word: { List ℕ };
+
     ghost reads: { Spot → Read Self };
+
+    // The first word of its line.
+    fn word() -> &'static [u8]
+        ensures { result.now ≡ word };
 
     // The numbers of its line, after the first word.
     fn read(reader: &mut Reader<'_>) -> Result<Self, Fault>
@@ -23,7 +29,13 @@ pub(crate) trait Row: Copy + Default {
 }
 
 impl Row for HeapRow {
+    ghost word = { codes "heap" };
+
     ghost reads = { read_heap };
+
+    fn word() -> &'static [u8] {
+        b"heap"
+    }
 
     fn read(reader: &mut Reader<'_>) -> Result<HeapRow, Fault> {
         let space = reader.number(1..=MAX_SPACE)?;
@@ -34,7 +46,13 @@ impl Row for HeapRow {
 }
 
 impl Row for StaticRow {
+    ghost word = { codes "static" };
+
     ghost reads = { read_static };
+
+    fn word() -> &'static [u8] {
+        b"static"
+    }
 
     fn read(reader: &mut Reader<'_>) -> Result<StaticRow, Fault> {
         let words = reader.number(0..=MAX_WORDS)?;
@@ -45,7 +63,13 @@ impl Row for StaticRow {
 }
 
 impl Row for KindRow {
+    ghost word = { codes "kind" };
+
     ghost reads = { read_kind };
+
+    fn word() -> &'static [u8] {
+        b"kind"
+    }
 
     fn read(reader: &mut Reader<'_>) -> Result<KindRow, Fault> {
         let size = reader.number(1..=MAX_SIZE)?;
@@ -56,7 +80,13 @@ impl Row for KindRow {
 }
 
 impl Row for TaskRow {
+    ghost word = { codes "task" };
+
     ghost reads = { read_task };
+
+    fn word() -> &'static [u8] {
+        b"task"
+    }
 
     fn read(reader: &mut Reader<'_>) -> Result<TaskRow, Fault> {
         let period = reader.number(1..=MAX_PERIOD)?;
@@ -99,27 +129,28 @@ impl Reader<'_> {
         }
     }
 
-    // The one line that begins with this word.
-    pub(crate) fn line<R: Row>(&mut self, word: &[u8]) -> Result<R, Fault>
-        ensures { one_line word.now R.Row.reads self.old ≡ placed (told result) self.new }
+    // The one line of a row.
+    #[tactic(auto, unfolding(crate::specs::Checking::one_line))]
+    pub(crate) fn line<R: Row>(&mut self) -> Result<R, Fault>
+        ensures { one_line R.Row.word R.Row.reads self.old ≡ placed (told result) self.new }
     {
-        if !self.takes(word) {
+        if !self.takes(R::word()) {
             return Err(self.refuse_line());
         }
         R::read(self)
     }
 
-    // Lines that begin with a word, as many as there is room for.
+    // The lines of rows of one sort, as many as there is room for.
+    #[tactic(auto, using(crate::proofs::Lined::lines_turn, crate::proofs::Lined::lines_fail, crate::proofs::Lined::lines_full, crate::proofs::Lined::lines_other))]
     pub(crate) fn rows<R: Row, const N: usize>(
         &mut self,
-        word: &[u8],
         room: usize,
     ) -> Result<ArrayVec<R, N>, Fault>
-        ensures answer { more_lines word.now R.Row.reads (min N room) self.old ≡ placed (listed (told result)) self.new }
+        ensures answer { more_lines R.Row.word R.Row.reads (min N room) self.old ≡ placed (listed (told result)) self.new }
         ensures few { IfOk result (λ rows. array_vec_len rows ≤ room) }
     {
         let mut rows = ArrayVec::new();
-        while rows.len() < room && !rows.is_full() && self.takes(word) {
+        while rows.len() < room && !rows.is_full() && self.takes(R::word()) {
             rows.push(R::read(self)?);
         }
         Ok(rows)

@@ -95,6 +95,7 @@ impl<'a> Reader<'a> {
     }
 
     // A comma and a number within limits.
+    #[tactic(auto, using(crate::proofs::Lexed::comma_ahead, crate::proofs::Lexed::no_comma, crate::proofs::Lexed::front_fits), unfolding(crate::specs::Checking::number))]
     pub(super) fn number(&mut self, limits: RangeInclusive<u32>) -> Result<u32, Fault>
         requires { range_inclusive_exhausted limits ≡ false }
         ensures { read_number (range_inclusive_start limits) (range_inclusive_end limits) self.old ≡ placed (told result) self.new }
@@ -102,10 +103,11 @@ impl<'a> Reader<'a> {
         self.expect(Class::Comma)?;
         let field = self.peek();
         self.pass(field.part.len());
-        field.limited(limits)
+        field.number(limits)
     }
 
     // Goes past the first word of a line, if it is this one.
+    #[tactic(auto, unfolding(crate::specs::Checking::leads))]
     pub(super) fn takes(&mut self, word: &[u8]) -> bool
         ensures answer { result ≡ leads word.now self.old }
         ensures place { self.new ≡ (if result then past_word word.now self.old else self.old) }
@@ -118,6 +120,7 @@ impl<'a> Reader<'a> {
     }
 
     // The end of a line.
+    #[tactic(auto, using(crate::proofs::Lexed::end_ahead, crate::proofs::Lexed::no_end), unfolding(crate::specs::Checking::line_end))]
     pub(super) fn line_end(&mut self) -> Result<(), Fault>
         ensures { line_end self.old ≡ placed (told result) self.new }
     {

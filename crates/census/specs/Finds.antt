@@ -44,6 +44,10 @@ pub record Grown (f g : Finds) : Type 0 where
   pub prefix : (n : ℕ) → n ≤ length (found f) → take n (found g) ≡ take n (found f)
   pub count : length (found f) ≤ length (found g)
 
+-- the search goes on from f to g
+abbrev pub GoesOn : Heap → List ℕ → Finds → Finds → Type 0
+GoesOn h m f g = Sound h m g × Grown f g
+
 -- what the first n slots hold is found
 abbrev pub Rooted : Heap → Finds → ℕ → Type 0
 Rooted h f n = (s : ℕ) → s < n → slice_index h.slots s ≢ 0 → is_seen f (slice_index h.slots s) ≡ true

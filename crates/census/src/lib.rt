@@ -1,10 +1,10 @@
 // The census: how many objects the slots lead to, and how many words these have. It reads a heap and a memory, and changes neither.
 #![tactic(auto)]
 
-ghost use Rattle.std.specs.Prelude.{◌≡◌, ℕ, ◌<◌, true, ◌≢◌, length, MatchResult};
-ghost use Rattle.fault.specs.Told.{refusal, told};
-ghost use Rattle.census.specs.Counts.{Reachable, Astray, in_census, Tells};
-ghost use Rattle.census.specs.Finds.{named, is_seen, found, nothing, noted, Tidy, Sound, Grown, Rooted, Followed, Closed};
+ghost use Rattle.std.specs.Prelude.{◌≡◌, ◌<◌, true, ◌≢◌, length, MatchResult};
+ghost use Rattle.fault.specs.Told.{told};
+ghost use Rattle.census.specs.Counts.{Reachable, LedAstray, Tells};
+ghost use Rattle.census.specs.Finds.{named, is_seen, found, nothing, noted, Tidy, Sound, GoesOn, Rooted, Followed, Closed};
 
 use arrayvec::ArrayVec;
 use fault::{Cause, Fault, Layer, Place};
@@ -76,11 +76,10 @@ impl<'a, R: Readable> Walk<'a, R> {
         requires sound { Sound self.old.heap.now (R.Readable.words self.old.memory.now) self.old.finds }
         requires reached { number ≢ 0 → Reachable self.old.heap.now (R.Readable.words self.old.memory.now) number }
         ensures over { (self.new.heap ≡ self.old.heap) × (self.new.memory ≡ self.old.memory) }
-        ensures finds { MatchResult result
-            (λ _. Sound self.old.heap.now (R.Readable.words self.old.memory.now) self.new.finds
-            × Grown self.old.finds self.new.finds
-            × (number ≢ 0 → is_seen self.new.finds number ≡ true))
-            (λ e. (refusal e ≡ in_census 20 0) × Astray self.old.heap.now (R.Readable.words self.old.memory.now)) }
+        ensures finds { let h = self.old.heap.now in let m = R.Readable.words self.old.memory.now in
+            MatchResult result
+            (λ _. GoesOn h m self.old.finds self.new.finds × (number ≢ 0 → is_seen self.new.finds number ≡ true))
+            (LedAstray h m) }
     {
         if number != 0 && !self.heap.in_use(number) {
             return Err(Fault::nowhere(Layer::Census, Cause::StrayReference));
@@ -95,10 +94,10 @@ impl<'a, R: Readable> Walk<'a, R> {
     fn note_slots(&mut self) -> Result<(), Fault>
         requires { Sound self.old.heap.now (R.Readable.words self.old.memory.now) self.old.finds }
         ensures over { (self.new.heap ≡ self.old.heap) × (self.new.memory ≡ self.old.memory) }
-        ensures finds { MatchResult result
-            (λ _. Sound self.old.heap.now (R.Readable.words self.old.memory.now) self.new.finds
-            × Rooted self.old.heap.now self.new.finds (length self.old.heap.now.slots))
-            (λ e. (refusal e ≡ in_census 20 0) × Astray self.old.heap.now (R.Readable.words self.old.memory.now)) }
+        ensures finds { let h = self.old.heap.now in let m = R.Readable.words self.old.memory.now in
+            MatchResult result
+            (λ _. GoesOn h m self.old.finds self.new.finds × Rooted h self.new.finds (length h.slots))
+            (LedAstray h m) }
     {
         let heap = self.heap;
         for held in heap.slots() {
@@ -112,11 +111,10 @@ impl<'a, R: Readable> Walk<'a, R> {
         requires sound { Sound self.old.heap.now (R.Readable.words self.old.memory.now) self.old.finds }
         requires here { Reachable self.old.heap.now (R.Readable.words self.old.memory.now) object }
         ensures over { (self.new.heap ≡ self.old.heap) × (self.new.memory ≡ self.old.memory) }
-        ensures finds { MatchResult result
-            (λ _. Sound self.old.heap.now (R.Readable.words self.old.memory.now) self.new.finds
-            × Grown self.old.finds self.new.finds
-            × Followed self.old.heap.now (R.Readable.words self.old.memory.now) self.new.finds object)
-            (λ e. (refusal e ≡ in_census 20 0) × Astray self.old.heap.now (R.Readable.words self.old.memory.now)) }
+        ensures finds { let h = self.old.heap.now in let m = R.Readable.words self.old.memory.now in
+            MatchResult result
+            (λ _. GoesOn h m self.old.finds self.new.finds × Followed h m self.new.finds object)
+            (LedAstray h m) }
     {
         let kind = self.heap.kind_of(object);
         let mut from = 0;
@@ -132,11 +130,10 @@ impl<'a, R: Readable> Walk<'a, R> {
     fn trace(&mut self) -> Result<(), Fault>
         requires { Sound self.old.heap.now (R.Readable.words self.old.memory.now) self.old.finds }
         ensures over { (self.new.heap ≡ self.old.heap) × (self.new.memory ≡ self.old.memory) }
-        ensures finds { MatchResult result
-            (λ _. Sound self.old.heap.now (R.Readable.words self.old.memory.now) self.new.finds
-            × Grown self.old.finds self.new.finds
-            × Closed self.old.heap.now (R.Readable.words self.old.memory.now) self.new.finds (length (found self.new.finds)))
-            (λ e. (refusal e ≡ in_census 20 0) × Astray self.old.heap.now (R.Readable.words self.old.memory.now)) }
+        ensures finds { let h = self.old.heap.now in let m = R.Readable.words self.old.memory.now in
+            MatchResult result
+            (λ _. GoesOn h m self.old.finds self.new.finds × Closed h m self.new.finds (length (found self.new.finds)))
+            (LedAstray h m) }
     {
         let mut next = 0;
         while let Some(object) = self.finds.list.get(next).copied() {

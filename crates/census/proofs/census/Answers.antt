@@ -17,4 +17,4 @@ returns g c =
     let f = c.trace.new.self.finds in
     let a = c.in_ok-note_slots.ensures in
     let b = rw (a.over.0, a.over.1) at c.in_ok-trace.ensures.finds in
-    (search rules, search rules, counted h m f _ b.0 (rooted_on h s.finds f (length h.slots) b.1 a.finds.1) b.2 (search rules) refl)
+    (search rules, search rules, counted h m f _ b.0.0 (rooted_on h s.finds f (length h.slots) b.0.1 a.finds.1) b.1 (search rules) refl)

@@ -10,7 +10,7 @@ follow-requires-clause-here g c =
     let n = c.loop-object.next in
     let l : n < length (found f) = search rules in
     let e : c.in-Some.object ≡ get_or (found f) n 0 = search rules in
-    rw (v.0, v.1, e) (next_reached c.args.self.now.heap.now (g.R.Readable.words c.args.self.now.memory.now) f n v.2 l)
+    rw (v.0, v.1, e) (next_reached c.args.self.now.heap.now (g.R.Readable.words c.args.self.now.memory.now) f n v.2.0 l)
 
 pub loop-object-preserved : goal.loop-object-preserved
 loop-object-preserved g c =
@@ -25,8 +25,7 @@ loop-object-preserved g c =
     let e = rw (v.0, v.1, is) at c.in_ok-follow.ensures.finds in (
       search rules,
       search rules,
-      e.0,
-      grown_on c.args.self.now.finds f q v.3 e.1,
-      closed_more h m f q n l e.1 e.2 v.4,
-      (let t = e.1.count in omega arith),
+      (e.0.0, grown_on c.args.self.now.finds f q v.2.1 e.0.1),
+      closed_more h m f q n l e.0.1 e.1 v.3,
+      (let t = e.0.1.count in omega arith),
     )

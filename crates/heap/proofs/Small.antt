@@ -1,5 +1,5 @@
 -- A call and a step write one word at most, and change nothing where they are refused.
-use Rattle.std.proofs.Common.{◌≡◌, ℕ, false, cond, eqb, List, set, sym, refl, ◌∙◌, inl, inr, arith}
+use Rattle.std.proofs.Common.{◌≡◌, ℕ, false, cond, eqb, List, set, sym, refl, ◌∙◌, inl, inr}
 use Rattle.std.proofs.lemmas.List.{get_or-set_other, length-set}
 use Rattle.std.proofs.lemmas.Bool.{cases_Bool, cond_both, cond-true, cond-false}
 use Rattle.fault.specs.Told.{Refusal, Told, answered, refused}

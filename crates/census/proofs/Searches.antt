@@ -1,8 +1,8 @@
 -- What one more number adds to the search behind the census.
-use Rattle.std.proofs.Common.{◌≡◌, ℕ, zero, suc, ◌+◌, ◌<◌, ◌≤◌, Bool, true, false, cond, not, ◌||◌, eqb, ltb, ◌≢◌, List, [], ◌∷◌, ◌++◌, length, get_or, take, set, replicate, sum_by, count_by, sym, refl, ap, ◌∙◌, subst, inl, inr, arith}
+use Rattle.std.proofs.Common.{◌≡◌, ℕ, zero, suc, ◌+◌, ◌<◌, ◌≤◌, Bool, true, false, cond, ◌||◌, eqb, ltb, ◌≢◌, List, [], ◌∷◌, ◌++◌, length, get_or, take, set, replicate, count_by, sym, refl, ap, ◌∙◌, subst, inl, inr, arith}
 use Rattle.std.proofs.lemmas.List.{get_or-set_same, get_or-set_other, length-set, length-append, get_or_past, get_or-replicate, length-replicate, take_more, take-append-le, take_all}
 use Rattle.std.proofs.lemmas.List.Sums.{sum_by-set, sum_by_push, count_by-le-length}
-use Rattle.std.proofs.lemmas.Bool.{cases_eq, cases_lt, cases_Bool, cond_both, ne_eqb, eq-eqb, eqb-true, eqb-false, both_ways, or_parts, or_cases, and_parts, and_right, cond-true, cond-false}
+use Rattle.std.proofs.lemmas.Bool.{cases_eq, cases_lt, cases_Bool, cond_both, ne_eqb, eq-eqb, eqb-true, eqb-false, both_ways, or_parts, or_cases, and_right, cond-true, cond-false}
 use Rattle.kinds.specs.declared.Kind.{Kind}
 use Rattle.kinds.specs.Maps.{bit, refers, bits_set, Next}
 use Rattle.kinds.proofs.Bits.{no_high_bit}
@@ -13,7 +13,7 @@ use Rattle.heap.specs.Objects.{kind_of, size_of, is_ref, word_of, in_slot, along
 use Rattle.heap.specs.Room.{in_use}
 use Rattle.census.specs.declared.Finds.{Finds}
 use Rattle.census.specs.declared.Count.{Count}
-use Rattle.census.specs.Counts.{Reachable, Counted, Astray}
+use Rattle.census.specs.Counts.{Reachable, Counted}
 use Rattle.census.specs.Finds.{named, is_seen, found, nothing, noted, Sound, Grown, Rooted, FollowedTo, Followed, Closed}
 
 -- one more is seen

@@ -1,8 +1,8 @@
 -- What one more number adds to the search behind the census.
-use Rattle.std.proofs.Common.{◌≡◌, ℕ, zero, suc, ◌+◌, ◌<◌, ◌≤◌, Bool, true, false, cond, not, ◌||◌, eqb, ltb, ◌≢◌, List, [], ◌∷◌, ◌++◌, length, get_or, take, set, replicate, sum_by, count_by, sym, refl, ap, ◌∙◌, subst, inl, inr, arith}
-use Rattle.std.proofs.lemmas.List.{get_or-set_same, get_or-set_other, length-set, get_or_past, get_or-replicate, length-replicate, take_more, take_more_set, take-set-le, length-take-le, get_or-take}
+use Rattle.std.proofs.Common.{◌≡◌, ℕ, zero, suc, ◌+◌, ◌<◌, ◌≤◌, Bool, true, false, cond, ◌||◌, eqb, ltb, ◌≢◌, List, [], ◌∷◌, ◌++◌, length, get_or, take, set, replicate, count_by, sym, refl, ap, ◌∙◌, subst, inl, inr, arith}
+use Rattle.std.proofs.lemmas.List.{get_or-set_same, get_or-set_other, length-set, length-append, get_or_past, get_or-replicate, length-replicate, take_more, take-append-le, take_all}
 use Rattle.std.proofs.lemmas.List.Sums.{sum_by-set, sum_by_push, count_by-le-length}
-use Rattle.std.proofs.lemmas.Bool.{cases_eq, cases_lt, cases_Bool, cond_both, ne_eqb, eq-eqb, eqb-true, eqb-false, both_ways, or_parts, or_cases, and_parts, and_right, cond-true, cond-false}
+use Rattle.std.proofs.lemmas.Bool.{cases_eq, cases_lt, cases_Bool, cond_both, ne_eqb, eq-eqb, eqb-true, eqb-false, both_ways, or_parts, or_cases, and_right, cond-true, cond-false}
 use Rattle.kinds.specs.declared.Kind.{Kind}
 use Rattle.kinds.specs.Maps.{bit, refers, bits_set, Next}
 use Rattle.kinds.proofs.Bits.{no_high_bit}
@@ -13,11 +13,11 @@ use Rattle.heap.specs.Objects.{kind_of, size_of, is_ref, word_of, in_slot, along
 use Rattle.heap.specs.Room.{in_use}
 use Rattle.census.specs.declared.Finds.{Finds}
 use Rattle.census.specs.declared.Count.{Count}
-use Rattle.census.specs.Counts.{Reachable, Counted, Astray}
-use Rattle.census.specs.Finds.{named, is_seen, found, nothing, noted, Sound, Grown, Roomy, Rooted, FollowedTo, Followed, Closed}
+use Rattle.census.specs.Counts.{Reachable, Counted}
+use Rattle.census.specs.Finds.{named, is_seen, found, nothing, noted, Sound, Grown, Rooted, FollowedTo, Followed, Closed}
 
 -- one more is seen
-pub seen_more : (xs : List Bool) (i : ℕ) → i < length xs → get_or xs i false ≡ false → count_by (λ b. b) (set xs i true) ≡ count_by (λ b. b) xs + 1
+seen_more : (xs : List Bool) (i : ℕ) → i < length xs → get_or xs i false ≡ false → count_by (λ b. b) (set xs i true) ≡ count_by (λ b. b) xs + 1
 seen_more xs i l e =
     let s = sum_by-set (λ b. cond {A = ℕ} b 1 0) xs i true false l in
     let z : cond {A = ℕ} (get_or xs i false) 1 0 ≡ 0 = rw e in
@@ -36,22 +36,16 @@ times_push x [] y = omega arith
 times_push x (z ∷ ys) y = let i = times_push x ys y in omega arith
 
 -- a number other than 0 that is not stray is that of a handle in use
-pub used_from : (h : Heap) (x : ℕ) → stray h.table x ≡ false → x ≢ 0 → in_use h x ≡ true
+used_from : (h : Heap) (x : ℕ) → stray h.table x ≡ false → x ≢ 0 → in_use h x ≡ true
 used_from h x s n =
     let e : is_spare (state_of h.table x) ≡ false = rw (ne_eqb x 0 n) at s in
     rw e
-
-pub astray_from : (h : Heap) (x : ℕ) → stray h.table x ≡ true → (x ≢ 0) × (in_use h x ≡ false)
-astray_from h x s =
-    let p = and_parts (not (eqb x 0)) (is_spare (state_of h.table x)) s in
-    ((λ e. let q : not (eqb x 0) ≡ false = ap not (eq-eqb x 0 e) in both_ways (not (eqb x 0)) q p.0), (rw p.1))
 
 -- what noting a number leaves
 pub record Noted (h : Heap) (m : List ℕ) (f : Finds) (x : ℕ) (g : Finds) : Type 0 where
   pub sound : Sound h m g
   pub grown : Grown f g
   pub here : x ≢ 0 → is_seen g x ≡ true
-  pub roomy : Roomy g
 
 pub same_grown : (f : Finds) → Grown f f
 same_grown f = record { keeps = λ x e. e; prefix = λ n l. refl; count = omega arith }
@@ -65,27 +59,23 @@ grown_on f g k a b =
     }
 
 -- a number that is none or seen adds nothing
-stands : (h : Heap) (m : List ℕ) (f : Finds) (x : ℕ) → Sound h m f → Roomy f → (eqb x 0 || is_seen f x) ≡ true → Noted h m f x f
-stands h m f x s r e =
+stands : (h : Heap) (m : List ℕ) (f : Finds) (x : ℕ) → Sound h m f → (eqb x 0 || is_seen f x) ≡ true → Noted h m f x f
+stands h m f x s e =
     record {
       sound = s;
       grown = same_grown f;
       here = λ n. elim (or_cases (eqb x 0) (is_seen f x) e) [ inl z ↦ absurd (n (eqb-true x 0 z)) | inr z ↦ z ];
-      roomy = r;
     }
 
 -- any other is one more
-adds : (h : Heap) (m : List ℕ) (f : Finds) (x n : ℕ) → Sound h m f → Roomy f → x < 257 → n ≡ size_of h.measures h.table x → n ≤ 255 → (x ≢ 0 → Reachable h m x × (in_use h x ≡ true)) → (eqb x 0 || is_seen f x) ≡ false
-    → Noted h m f x (record { list = set f.list f.count x; seen = set f.seen x true; count = f.count + 1; words = f.words + n })
-adds h m f x n s r l e k w t =
+adds : (h : Heap) (m : List ℕ) (f : Finds) (x n : ℕ) → Sound h m f → x < length f.seen → n ≡ size_of h.measures h.table x → n ≤ 255 → (x ≢ 0 → Reachable h m x × (in_use h x ≡ true)) → (eqb x 0 || is_seen f x) ≡ false
+    → Noted h m f x (record { list = record { items = found f ++ x ∷ [] }; seen = set f.seen x true; words = f.words + n })
+adds h m f x n s l e k w t =
     let p = or_parts (eqb x 0) (is_seen f x) t in
     let z : x ≢ 0 = eqb-false x 0 p.0 in
-    let lx : x < length f.seen = let a = r.seen in omega arith in
-    let c = room f.seen x lx p.1 in
     let ct = s.tidy.count in
-    let cl : f.count < length f.list = let a = r.seen in let b = r.list in omega arith in
-    let fs : take (f.count + 1) (set f.list f.count x) ≡ found f ++ x ∷ [] = take_more_set f.list f.count x cl in
-    let here : get_or (set f.seen x true) x false ≡ true = get_or-set_same f.seen x true false lx in
+    let longer : length (found f ++ x ∷ []) ≡ length (found f) + 1 = length-append (found f) (x ∷ []) in
+    let here : get_or (set f.seen x true) x false ≡ true = get_or-set_same f.seen x true false l in
     let there : (y : ℕ) → y ≢ x → get_or (set f.seen x true) y false ≡ is_seen f y = λ y d. get_or-set_other f.seen x y true false d in
     record {
       sound = record {
@@ -99,43 +89,42 @@ adds h m f x n s r l e k w t =
               let u : is_seen f y ≡ false = ap (is_seen f) q ∙ p.1 in
               let o' : times y (found f) ≡ 0 = o ∙ cond-false (is_seen f y) 1 0 u in
               let b : cond {A = ℕ} (eqb y x) 1 0 ≡ 1 = cond-true (eqb y x) 1 0 (eq-eqb y x q) in
-              ap (times y) fs ∙ (a ∙ (rw (g, o', b))))
+              a ∙ (rw (g, o', b)))
           | inr d ↦
               (let b : cond {A = ℕ} (eqb y x) 1 0 ≡ 0 = cond-false (eqb y x) 1 0 (ne_eqb y x d) in
               let v : times y (found f ++ x ∷ []) ≡ cond (is_seen f y) 1 0 = omega arith in
-              ap (times y) fs ∙ (v ∙ (rw (there y d))))
+              v ∙ (rw (there y d)))
         ];
         tidy = record {
-          count = let a = seen_more f.seen x lx p.1 in omega arith;
+          count = let a = seen_more f.seen x l p.1 in omega arith;
           words = let a = s.tidy.words in omega arith;
         };
-        words = let a = sum_by_push (size_of h.measures h.table) (found f) x in let b = s.words in let g = ap (sum_by (size_of h.measures h.table)) fs in omega arith;
+        words = let a = sum_by_push (size_of h.measures h.table) (found f) x in let b = s.words in omega arith;
       };
       grown = record {
         keeps = λ y g. elim (cases_eq y x) [ inl q ↦ (ap (λ (v : ℕ). get_or (set f.seen x true) v false) q ∙ here) | inr d ↦ (there y d ∙ g) ];
-        prefix = λ i u. take-set-le i f.list f.count x u;
+        prefix = λ i u. take-append-le i (found f) (x ∷ []) u;
         count = omega arith;
       };
       here = λ _. here;
-      roomy = record { list = length-set f.list f.count x ∙ r.list; seen = length-set f.seen x true ∙ r.seen };
     }
 
-pub noted_leaves : (h : Heap) (m : List ℕ) (f : Finds) (x : ℕ) → Sound h m f → Roomy f → x < 257 → size_of h.measures h.table x ≤ 255 → stray h.table x ≡ false → (x ≢ 0 → Reachable h m x)
+noted_leaves : (h : Heap) (m : List ℕ) (f : Finds) (x : ℕ) → Sound h m f → x < length f.seen → size_of h.measures h.table x ≤ 255 → stray h.table x ≡ false → (x ≢ 0 → Reachable h m x)
     → Noted h m f x (noted f x (size_of h.measures h.table x))
-noted_leaves h m f x s r l k t w =
+noted_leaves h m f x s l k t w =
     cond_both (eqb x 0 || is_seen f x) f
-    (record { list = set f.list f.count x; seen = set f.seen x true; count = f.count + 1; words = f.words + size_of h.measures h.table x })
+    (record { list = record { items = found f ++ x ∷ [] }; seen = set f.seen x true; words = f.words + size_of h.measures h.table x })
     (Noted h m f x)
-    (stands h m f x s r)
-    (adds h m f x (size_of h.measures h.table x) s r l refl k (λ z. (w z, used_from h x t z)))
+    (stands h m f x s)
+    (adds h m f x (size_of h.measures h.table x) s l refl k (λ z. (w z, used_from h x t z)))
 
--- the same of a number y that the code has for x, and of what it leaves
-pub visited : (h : Heap) (m : List ℕ) (f g : Finds) (x y : ℕ) → y ≡ x → Sound h m f → Roomy f → y < 257 → size_of h.measures h.table y ≤ 255 → stray h.table y ≡ false
-    → g ≡ noted f y (size_of h.measures h.table y) → (x ≢ 0 → Reachable h m x) → Noted h m f x g
-visited h m f g x y e s r l k t q w =
-    let w' : y ≢ 0 → Reachable h m y = subst (λ (z : ℕ). z ≢ 0 → Reachable h m z) (sym e) w in
-    let n : Noted h m f y g = subst (Noted h m f y) (sym q) (noted_leaves h m f y s r l k t w') in
-    subst (λ (z : ℕ). Noted h m f z g) e n
+-- the same of what the code leaves, with the size that it found
+pub visited : (h : Heap) (m : List ℕ) (f g : Finds) (x n : ℕ) → Sound h m f → x < length f.seen → n ≡ size_of h.measures h.table x → n ≤ 255 → stray h.table x ≡ false → (x ≢ 0 → Reachable h m x)
+    → g ≡ noted f x n → Noted h m f x g
+visited h m f g x n s l e k t w q =
+    let size : size_of h.measures h.table x ≤ 255 = omega arith in
+    let left : noted f x (size_of h.measures h.table x) ≡ g = rw (← e) (sym q) in
+    subst (Noted h m f x) left (noted_leaves h m f x s l size t w)
 
 -- a search that has found nothing
 pub begins : (h : Heap) (m : List ℕ) → Sound h m nothing
@@ -154,36 +143,20 @@ begins h m =
           | inr q ↦ get_or_past (replicate 257 false) x false (rw (length-replicate 257 false) q)
         ]
 
-pub roomy_begins : Roomy nothing
-roomy_begins = record { list = refl; seen = refl }
-
--- one more slot
-pub rooted_more : (h : Heap) (m : List ℕ) (f g : Finds) (i : ℕ) → Noted h m f (get_or h.slots i 0) g → Rooted h f i → Rooted h g (i + 1)
-rooted_more h m f g i n r k l z =
-    elim (cases_lt k i) [
-      | inl p ↦ n.grown.keeps (get_or h.slots k 0) (r k p z)
-      | inr q ↦
-          (let e : k ≡ i = omega arith in
-          let z' : get_or h.slots i 0 ≢ 0 = subst (λ (a : ℕ). get_or h.slots a 0 ≢ 0) e z in
-          subst (λ (a : ℕ). is_seen g (get_or h.slots a 0) ≡ true) (sym e) (n.here z'))
-    ]
-
-pub astray_slot : (h : Heap) (m : List ℕ) (i : ℕ) → stray h.table (get_or h.slots i 0) ≡ true → Astray h m
-astray_slot h m i s = let p = astray_from h (get_or h.slots i 0) s in (get_or h.slots i 0, in_slot i refl p.0, p.1)
-
 -- what a word names: nothing, unless it is a reference
 not_named : (h : Heap) (m : List ℕ) (x j : ℕ) → is_ref h.measures h.table x j ≡ false → named h m x j ≡ 0
 not_named h m x j e = cond-false (is_ref h.measures h.table x j) (word_of h m x j) 0 e
 
-pub reachable_by : (h : Heap) (m : List ℕ) (x j : ℕ) → Reachable h m x → named h m x j ≢ 0 → Reachable h m (named h m x j)
+reachable_by : (h : Heap) (m : List ℕ) (x j : ℕ) → Reachable h m x → named h m x j ≢ 0 → Reachable h m (named h m x j)
 reachable_by h m x j r n =
     elim (cases_Bool (is_ref h.measures h.table x j)) [
       | inl t ↦ along j r t (sym (cond-true (is_ref h.measures h.table x j) (word_of h m x j) 0 t)) n
       | inr f ↦ absurd (n (not_named h m x j f))
     ]
 
-pub astray_word : (h : Heap) (m : List ℕ) (x j : ℕ) → Reachable h m x → stray h.table (named h m x j) ≡ true → Astray h m
-astray_word h m x j r s = let p = astray_from h (named h m x j) s in (named h m x j, reachable_by h m x j r p.0, p.1)
+-- the same of a number that the code has for it
+pub reached_by : (h : Heap) (m : List ℕ) (x j y : ℕ) → y ≡ named h m x j → Reachable h m x → y ≢ 0 → Reachable h m y
+reached_by h m x j y e r n = subst (Reachable h m) (sym e) (reachable_by h m x j r (λ z. n (e ∙ z)))
 
 -- a word whose bit is not set is no reference
 bit_refers : (h : Heap) (m : List ℕ) (k : Kind) (x j : ℕ) → k ≡ kind_of h.measures (row h.table x).kind → bit k.map j ≡ false → named h m x j ≡ 0
@@ -195,16 +168,16 @@ bit_refers h m k x j e b =
 
 -- the words up to the next reference, and that one, are followed
 pub followed_more : (h : Heap) (m : List ℕ) (k : Kind) (f g : Finds) (x from r : ℕ) → k ≡ kind_of h.measures (row h.table x).kind → Next k.map from r
-    → Noted h m f (named h m x r) g → FollowedTo h m f x from → FollowedTo h m g x (r + 1)
-followed_more h m k f g x from r e n o w j l z =
+    → Grown f g → (named h m x r ≢ 0 → is_seen g (named h m x r) ≡ true) → FollowedTo h m f x from → FollowedTo h m g x (r + 1)
+followed_more h m k f g x from r e n o here w j l z =
     elim (cases_lt j from) [
-      | inl p ↦ o.grown.keeps (named h m x j) (w j p z)
+      | inl p ↦ o.keeps (named h m x j) (w j p z)
       | inr q ↦ elim (cases_lt j r) [
         | inl p ↦ absurd (z (bit_refers h m k x j e (n.none_before j q p)))
         | inr p ↦
             (let i : j ≡ r = omega arith in
             let z' : named h m x r ≢ 0 = subst (λ (a : ℕ). named h m x a ≢ 0) i z in
-            subst (λ (a : ℕ). is_seen g (named h m x a) ≡ true) (sym i) (o.here z'))
+            subst (λ (a : ℕ). is_seen g (named h m x a) ≡ true) (sym i) (here z'))
       ]
     ]
 
@@ -225,9 +198,6 @@ times_at [] i l = absurd (omega arith)
 times_at (x ∷ xs) zero l = let e : cond {A = ℕ} (eqb x x) 1 0 ≡ 1 = cond-true (eqb x x) 1 0 (eq-eqb x x refl) in λ z. omega arith
 times_at (x ∷ xs) (suc i) l = let r = times_at xs i (omega arith) in λ z. r (omega arith)
 
-pub few : (h : Heap) (m : List ℕ) (f : Finds) → Sound h m f → Roomy f → f.count ≤ 257
-few h m f s r = let a = count_by-le-length (λ b. b) f.seen in let b = s.tidy.count in let c = r.seen in omega arith
-
 listed_seen : (h : Heap) (m : List ℕ) (f : Finds) (x : ℕ) → Sound h m f → times x (found f) ≢ 0 → is_seen f x ≡ true
 listed_seen h m f x s n =
     elim (cases_Bool (is_seen f x)) [
@@ -236,34 +206,28 @@ listed_seen h m f x s n =
     ]
 
 -- what stands in the list is reachable
-pub next_reached : (h : Heap) (m : List ℕ) (f : Finds) (i : ℕ) → Sound h m f → Roomy f → i < f.count → Reachable h m (get_or f.list i 0)
-next_reached h m f i s r l =
-    let a = few h m f s r in
-    let b = r.list in
-    let c : length (found f) ≡ f.count = length-take-le f.count f.list (omega arith) in
-    let t = times_at (found f) i (omega arith) in
-    let g : get_or (found f) i 0 ≡ get_or f.list i 0 = get_or-take f.count f.list i 0 l in
-    (s.reached (get_or f.list i 0) (listed_seen h m f (get_or f.list i 0) s (subst (λ (y : ℕ). times y (found f) ≢ 0) g t))).0
+pub next_reached : (h : Heap) (m : List ℕ) (f : Finds) (i : ℕ) → Sound h m f → i < length (found f) → Reachable h m (get_or (found f) i 0)
+next_reached h m f i s l = (s.reached (get_or (found f) i 0) (listed_seen h m f (get_or (found f) i 0) s (times_at (found f) i l))).0
 
 -- one more handle of the list is followed
-pub closed_more : (h : Heap) (m : List ℕ) (f g : Finds) (n : ℕ) → Roomy f → n < f.count → f.count ≤ 257 → Grown f g → Followed h m g (get_or f.list n 0) → Closed h m f n → Closed h m g (n + 1)
-closed_more h m f g n r l u w a c x t j z =
-    let p : take (n + 1) g.list ≡ take n f.list ++ get_or f.list n 0 ∷ [] =
-    w.prefix (n + 1) (omega arith) ∙ take_more f.list n 0 (let b = r.list in omega arith) in
-    let q : times x (take (n + 1) g.list) ≡ times x (take n f.list) + cond (eqb x (get_or f.list n 0)) 1 0 =
-    ap (times x) p ∙ times_push x (take n f.list) (get_or f.list n 0) in
-    elim (cases_eq x (get_or f.list n 0)) [
+pub closed_more : (h : Heap) (m : List ℕ) (f g : Finds) (n : ℕ) → n < length (found f) → Grown f g → Followed h m g (get_or (found f) n 0) → Closed h m f n → Closed h m g (n + 1)
+closed_more h m f g n l w a c x t j z =
+    let p : take (n + 1) (found g) ≡ take n (found f) ++ get_or (found f) n 0 ∷ [] =
+    w.prefix (n + 1) (omega arith) ∙ take_more (found f) n 0 l in
+    let q : times x (take (n + 1) (found g)) ≡ times x (take n (found f)) + cond (eqb x (get_or (found f) n 0)) 1 0 =
+    ap (times x) p ∙ times_push x (take n (found f)) (get_or (found f) n 0) in
+    elim (cases_eq x (get_or (found f) n 0)) [
       | inl e ↦
           (subst (λ (y : ℕ). is_seen g (named h m y j) ≡ true) (sym e)
           (a j (subst (λ (y : ℕ). named h m y j ≢ 0) e z)))
       | inr d ↦
-          (let b : cond {A = ℕ} (eqb x (get_or f.list n 0)) 1 0 ≡ 0 = cond-false (eqb x (get_or f.list n 0)) 1 0 (ne_eqb x (get_or f.list n 0) d) in
-          let t' : times x (take n f.list) ≢ 0 = λ o. t (omega arith) in
+          (let b : cond {A = ℕ} (eqb x (get_or (found f) n 0)) 1 0 ≡ 0 = cond-false (eqb x (get_or (found f) n 0)) 1 0 (ne_eqb x (get_or (found f) n 0) d) in
+          let t' : times x (take n (found f)) ≢ 0 = λ o. t (omega arith) in
           w.keeps (named h m x j) (c x t' j z))
     ]
 
 -- when the whole list is followed, all that is reachable is seen
-pub all_seen : (h : Heap) (m : List ℕ) (f : Finds) → Sound h m f → Rooted h f (length h.slots) → Closed h m f f.count → (x : ℕ) → Reachable h m x → is_seen f x ≡ true
+pub all_seen : (h : Heap) (m : List ℕ) (f : Finds) → Sound h m f → Rooted h f (length h.slots) → Closed h m f (length (found f)) → (x : ℕ) → Reachable h m x → is_seen f x ≡ true
 all_seen h m f s r c x (in_slot i e n) =
     elim (cases_lt i (length h.slots)) [
       | inl p ↦ (subst (λ (a : ℕ). is_seen f a ≡ true) e (r i p (λ z. n (sym e ∙ z))))
@@ -271,19 +235,19 @@ all_seen h m f s r c x (in_slot i e n) =
     ]
 all_seen h m f s r c x (along {p = p} j q t e n) =
     let g = all_seen h m f s r c p q in
-    let o : times p (found f) ≢ 0 = λ z. (let a = s.once p in let b : cond {A = ℕ} (is_seen f p) 1 0 ≡ 1 = cond-true (is_seen f p) 1 0 g in omega arith) in
+    let o : times p (take (length (found f)) (found f)) ≢ 0 = λ z'. (let z : times p (found f) ≡ 0 = ap (times p) (sym (take_all (length (found f)) (found f) (omega arith))) ∙ z' in let a = s.once p in let b : cond {A = ℕ} (is_seen f p) 1 0 ≡ 1 = cond-true (is_seen f p) 1 0 g in omega arith) in
     let k : named h m p j ≡ x = cond-true (is_ref h.measures h.table p j) (word_of h m p j) 0 t ∙ e in
     subst (λ (a : ℕ). is_seen f a ≡ true) k (c p o j (λ z. n (sym k ∙ z)))
 
 -- then what is found is counted
-pub counted : (h : Heap) (m : List ℕ) (f : Finds) (c : Count) → Sound h m f → Roomy f → Rooted h f (length h.slots) → Closed h m f f.count → c.objects ≡ f.count → c.words ≡ f.words → Counted h m c
-counted h m f c s r o k a b =
+pub counted : (h : Heap) (m : List ℕ) (f : Finds) (c : Count) → Sound h m f → Rooted h f (length h.slots) → Closed h m f (length (found f)) → c.objects ≡ length (found f) → c.words ≡ f.words → Counted h m c
+counted h m f c s o k a b =
     record {
       listed = found f;
       each = λ x w. s.once x ∙ cond-true (is_seen f x) 1 0 (all_seen h m f s o k x w);
       only = λ x n. (s.reached x (listed_seen h m f x s n)).0;
       used = λ x w. (s.reached x (all_seen h m f s o k x w)).1;
-      objects = let u = few h m f s r in let v = r.list in a ∙ sym (length-take-le f.count f.list (omega arith));
+      objects = a;
       words = b ∙ s.words;
     }
 

@@ -1,6 +1,7 @@
 -- The census: how many objects, and how many words, the slots lead to through reference words.
 use Rattle.std.specs.Prelude.{◌≡◌, ℕ, ◌<◌, ◌≤◌, true, false, ◌≢◌, ◌⊎◌, List, length, sum_by}
-use Rattle.fault.specs.Told.{Refusal, Told, answered, refused, census}
+use Rattle.fault.specs.declared.Fault.{Fault}
+use Rattle.fault.specs.Told.{Refusal, Told, answered, refused, refusal, census}
 use Rattle.heap.specs.declared.Heap.{Heap}
 use Rattle.heap.specs.Objects.{view, word_of, size_of, footprint, Reached, times}
 use Rattle.heap.specs.Room.{in_use}
@@ -25,6 +26,10 @@ Astray h m = (x : ℕ) × Reachable h m x × (in_use h x ≡ false)
 
 abbrev pub in_census : ℕ → ℕ → Refusal
 in_census n place = record { number = n; layer = census; place = place; column = 0 }
+
+-- refusal 20, and what it is for
+abbrev pub LedAstray : Heap → List ℕ → Fault → Type 0
+LedAstray h m e = (refusal e ≡ in_census 20 0) × Astray h m
 
 -- 12, then 1 at a length under both spaces, then 20, else the count
 abbrev pub Tells : Heap → List ℕ → Told Count → Type 0

@@ -1,5 +1,5 @@
 -- The search behind the census: what it has found, and what one more number adds.
-use Rattle.std.specs.Prelude.{◌≡◌, ℕ, ◌+◌, ◌*◌, ◌<◌, ◌≤◌, Bool, true, false, cond, ◌||◌, ◌≢◌, List, length, take, replicate, sum_by, count_by, ◌==◌, slice_index, slice_index_or, slice_set}
+use Rattle.std.specs.Prelude.{◌≡◌, ℕ, ◌+◌, ◌*◌, ◌<◌, ◌≤◌, Bool, true, false, cond, ◌||◌, ◌≢◌, List, [], ◌∷◌, ◌++◌, length, take, replicate, sum_by, count_by, ◌==◌, slice_index, slice_index_or, slice_set}
 use Rattle.heap.specs.declared.Heap.{Heap}
 use Rattle.heap.specs.Objects.{word_of, size_of, is_ref, times}
 use Rattle.heap.specs.Room.{in_use}
@@ -15,21 +15,21 @@ is_seen f x = slice_index_or f.seen x false
 
 -- the handles found, in the order in which they were found
 abbrev pub found : Finds → List ℕ
-found f = take f.count f.list
+found f = f.list.items
 
 abbrev pub nothing : Finds
-nothing = record { list = replicate 257 0; seen = replicate 257 false; count = 0; words = 0 }
+nothing = record { list = record { items = [] }; seen = replicate 257 false; words = 0 }
 
 -- a number of size n is found; 0 and what was found before change nothing
 abbrev pub noted : Finds → ℕ → ℕ → Finds
 noted f x n =
     cond (x == 0 || is_seen f x) f
-    (record { list = slice_set f.list f.count x; seen = slice_set f.seen x true; count = f.count + 1; words = f.words + n })
+    (record { list = record { items = found f ++ x ∷ [] }; seen = slice_set f.seen x true; words = f.words + n })
 
--- the count is that of what was seen, and bounds the words
+-- there are as many as were seen, and their number bounds the words
 pub record Tidy (f : Finds) : Type 0 where
-  pub count : f.count ≡ count_by (λ b. b) f.seen
-  pub words : f.words ≤ 255 * f.count
+  pub count : length (found f) ≡ count_by (λ b. b) f.seen
+  pub words : f.words ≤ 255 * length (found f)
 
 -- what is found is reachable and in use, stands in the list once, and is counted with its words
 pub record Sound (h : Heap) (m : List ℕ) (f : Finds) : Type 0 where
@@ -41,8 +41,12 @@ pub record Sound (h : Heap) (m : List ℕ) (f : Finds) : Type 0 where
 -- the search goes on: what was found stays found, in its place
 pub record Grown (f g : Finds) : Type 0 where
   pub keeps : (x : ℕ) → is_seen f x ≡ true → is_seen g x ≡ true
-  pub prefix : (n : ℕ) → n ≤ f.count → take n g.list ≡ take n f.list
-  pub count : f.count ≤ g.count
+  pub prefix : (n : ℕ) → n ≤ length (found f) → take n (found g) ≡ take n (found f)
+  pub count : length (found f) ≤ length (found g)
+
+-- the search goes on from f to g
+abbrev pub GoesOn : Heap → List ℕ → Finds → Finds → Type 0
+GoesOn h m f g = Sound h m g × Grown f g
 
 -- what the first n slots hold is found
 abbrev pub Rooted : Heap → Finds → ℕ → Type 0
@@ -58,9 +62,4 @@ Followed h m f x = (j : ℕ) → named h m x j ≢ 0 → is_seen f (named h m x 
 
 -- what the first n handles of the list name is found
 abbrev pub Closed : Heap → List ℕ → Finds → ℕ → Type 0
-Closed h m f n = (x : ℕ) → times x (take n f.list) ≢ 0 → Followed h m f x
-
--- both arrays have a place for each handle
-pub record Roomy (f : Finds) : Type 0 where
-  pub list : length f.list ≡ 257
-  pub seen : length f.seen ≡ 257
+Closed h m f n = (x : ℕ) → times x (take n (found f)) ≢ 0 → Followed h m f x

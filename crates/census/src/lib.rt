@@ -1,19 +1,17 @@
 // The census: how many objects the slots lead to, and how many words these have. It reads a heap and a memory, and changes neither.
 #![tactic(auto)]
 
-ghost use Rattle.std.specs.Prelude.{◌≡◌, ℕ, ◌<◌, ◌≤◌, true, false, ◌≢◌, List, length, MatchResult, slice_index};
-ghost use Rattle.fault.specs.Told.{refusal, told, number_of, place_of, column_of, census as census_layer};
-ghost use Rattle.kinds.specs.Maps.{refers};
-ghost use Rattle.heap.specs.Handles.{stray, row};
-ghost use Rattle.heap.specs.Objects.{kind_of, size_of};
-ghost use Rattle.census.specs.Counts.{Reachable, Astray, in_census, Tells};
-ghost use Rattle.census.specs.Finds.{named, is_seen, nothing, noted, Tidy, Sound, Grown, Rooted, Followed, Closed, Roomy};
+ghost use Rattle.std.specs.Prelude.{◌≡◌, ◌<◌, true, ◌≢◌, length, MatchResult};
+ghost use Rattle.fault.specs.Told.{told};
+ghost use Rattle.census.specs.Counts.{Reachable, LedAstray, Tells};
+ghost use Rattle.census.specs.Finds.{named, is_seen, found, nothing, noted, Tidy, Sound, GoesOn, Rooted, Followed, Closed};
 
+use arrayvec::ArrayVec;
 use fault::{Cause, Fault, Layer, Place};
 use heap::Heap;
 use memory::Readable;
 
-#[derive(Clone, Copy)]
+#[derive(Clone, Copy, PartialEq, Eq, Debug)]
 pub struct Count {
     pub objects: u16,
     pub words: u32,
@@ -22,41 +20,9 @@ pub struct Count {
 // The handles found so far, each once, in the order in which they were found; and how many words their objects have.
 #[derive(Drop)]
 struct Finds {
-    list: [u16; 257],
+    list: ArrayVec<u16, 257>,
     seen: [bool; 257],
-    count: u16,
     words: u32,
-}
-
-fn refuse(cause: Cause, place: Place) -> Fault
-    ensures { refusal result ≡ record { number = number_of cause; layer = census_layer; place = place_of place; column = column_of place } }
-{
-    Fault {
-        cause,
-        layer: Layer::Census,
-        place,
-    }
-}
-
-// The word at a place, 0 past the end.
-fn word_or_none<R: Readable>(memory: &R, place: usize) -> u32
-    ensures { result ≡ slice_index (R.Readable.words memory.now) place }
-{
-    match memory.word(place) {
-        Ok(word) => word,
-        Err(_) => 0,
-    }
-}
-
-// The handle that a word of an object names, 0 for none and for a number word.
-fn named_by<R: Readable>(heap: &Heap, memory: &R, object: u16, word: u16) -> u32
-    ensures { result ≡ named heap.now (R.Readable.words memory.now) object word }
-{
-    if heap.kind_of(object).refers(word) {
-        word_or_none(memory, heap.locate(object, word))
-    } else {
-        0
-    }
 }
 
 impl Finds {
@@ -64,9 +30,8 @@ impl Finds {
         ensures { result ≡ nothing }
     {
         Finds {
-            list: [0; 257],
+            list: ArrayVec::new(),
             seen: [false; 257],
-            count: 0,
             words: 0,
         }
     }
@@ -78,84 +43,101 @@ impl Finds {
         ensures { self.new ≡ noted self.old number size }
     {
         if number != 0 && !self.seen[number as usize] {
-            self.list[self.count as usize] = number;
+            self.list.push(number);
             self.seen[number as usize] = true;
-            self.count += 1;
             self.words += size as u32;
+        }
+    }
+}
+
+// A search through a heap over its memory, and what it has found.
+#[derive(Drop)]
+struct Walk<'a, R> {
+    heap: &'a Heap,
+    memory: &'a R,
+    finds: Finds,
+}
+
+impl<'a, R: Readable> Walk<'a, R> {
+    // The handle that a word of an object names, 0 for none and for a number word. A word past the end of the memory is 0.
+    fn named_by(&self, object: u16, word: u16) -> u32
+        ensures { result ≡ named self.now.heap.now (R.Readable.words self.now.memory.now) object word }
+    {
+        if self.heap.kind_of(object).refers(word) {
+            let place = self.heap.locate(object, word);
+            self.memory.word(place).unwrap_or(0)
+        } else {
+            0
         }
     }
 
     // A number that a slot or a reference word holds is found, unless it is none.
-    fn visit(&mut self, heap: &Heap, number: u32) -> Result<(), Fault>
-        requires { Tidy self.old }
-        ensures { MatchResult result
-            (λ _. (stray heap.now.table number ≡ false) × (number < 257)
-            × (size_of heap.now.measures heap.now.table number ≤ 255)
-            × (self.new ≡ noted self.old number (size_of heap.now.measures heap.now.table number)))
-            (λ e. (stray heap.now.table number ≡ true) × (refusal e ≡ in_census 20 0)) }
+    fn visit(&mut self, number: u32) -> Result<(), Fault>
+        requires sound { Sound self.old.heap.now (R.Readable.words self.old.memory.now) self.old.finds }
+        requires reached { number ≢ 0 → Reachable self.old.heap.now (R.Readable.words self.old.memory.now) number }
+        ensures over { (self.new.heap ≡ self.old.heap) × (self.new.memory ≡ self.old.memory) }
+        ensures finds { let h = self.old.heap.now in let m = R.Readable.words self.old.memory.now in
+            MatchResult result
+            (λ _. GoesOn h m self.old.finds self.new.finds × (number ≢ 0 → is_seen self.new.finds number ≡ true))
+            (LedAstray h m) }
     {
-        if number != 0 && !heap.in_use(number) {
-            return Err(refuse(Cause::StrayReference, Place::Nowhere));
+        if number != 0 && !self.heap.in_use(number) {
+            return Err(Fault::nowhere(Layer::Census, Cause::StrayReference));
         }
         let object = number as u16;
-        self.note(object, heap.kind_of(object).size);
+        let size = self.heap.kind_of(object).size;
+        self.finds.note(object, size);
         Ok(())
     }
-}
 
-impl Finds {
     // What the slots hold is found.
-    fn note_slots(&mut self, heap: &Heap) -> Result<(), Fault>
-        requires roomy { Roomy self.old }
-        requires sound { (m : List ℕ) → Sound heap.now m self.old }
-        ensures { MatchResult result
-            (λ _. ((m : List ℕ) → Sound heap.now m self.new) × Roomy self.new
-            × Rooted heap.now self.new (length heap.now.slots))
-            (λ e. (refusal e ≡ in_census 20 0) × ((m : List ℕ) → Astray heap.now m)) }
+    fn note_slots(&mut self) -> Result<(), Fault>
+        requires { Sound self.old.heap.now (R.Readable.words self.old.memory.now) self.old.finds }
+        ensures over { (self.new.heap ≡ self.old.heap) × (self.new.memory ≡ self.old.memory) }
+        ensures finds { let h = self.old.heap.now in let m = R.Readable.words self.old.memory.now in
+            MatchResult result
+            (λ _. GoesOn h m self.old.finds self.new.finds × Rooted h self.new.finds (length h.slots))
+            (LedAstray h m) }
     {
-        let slots = heap.slots();
-        for i in 0..slots.len() {
-            let held = slots[i];
-            self.visit(heap, held as u32)?;
+        let heap = self.heap;
+        for held in heap.slots() {
+            self.visit(*held as u32)?;
         }
         Ok(())
     }
 
     // What the reference words of an object name is found.
-    fn follow<R: Readable>(&mut self, heap: &Heap, memory: &R, object: u16) -> Result<(), Fault>
-        requires roomy { Roomy self.old }
-        requires sound { Sound heap.now (R.Readable.words memory.now) self.old }
-        requires here { Reachable heap.now (R.Readable.words memory.now) object }
-        ensures { MatchResult result
-            (λ _. Sound heap.now (R.Readable.words memory.now) self.new
-            × Roomy self.new × Grown self.old self.new
-            × Followed heap.now (R.Readable.words memory.now) self.new object)
-            (λ e. (refusal e ≡ in_census 20 0) × Astray heap.now (R.Readable.words memory.now)) }
+    fn follow(&mut self, object: u16) -> Result<(), Fault>
+        requires sound { Sound self.old.heap.now (R.Readable.words self.old.memory.now) self.old.finds }
+        requires here { Reachable self.old.heap.now (R.Readable.words self.old.memory.now) object }
+        ensures over { (self.new.heap ≡ self.old.heap) × (self.new.memory ≡ self.old.memory) }
+        ensures finds { let h = self.old.heap.now in let m = R.Readable.words self.old.memory.now in
+            MatchResult result
+            (λ _. GoesOn h m self.old.finds self.new.finds × Followed h m self.new.finds object)
+            (LedAstray h m) }
     {
-        let kind = heap.kind_of(object);
+        let kind = self.heap.kind_of(object);
         let mut from = 0;
         for _met in 0..kind.references() {
             let word = kind.next_reference(from);
-            self.visit(heap, named_by(heap, memory, object, word))?;
+            self.visit(self.named_by(object, word))?;
             from = word + 1;
         }
         Ok(())
     }
 
     // Everything that what is found leads to is found.
-    fn trace<R: Readable>(&mut self, heap: &Heap, memory: &R) -> Result<(), Fault>
-        requires roomy { Roomy self.old }
-        requires sound { Sound heap.now (R.Readable.words memory.now) self.old }
-        ensures { MatchResult result
-            (λ _. Sound heap.now (R.Readable.words memory.now) self.new
-            × Roomy self.new × Grown self.old self.new
-            × Closed heap.now (R.Readable.words memory.now) self.new self.new.count)
-            (λ e. (refusal e ≡ in_census 20 0) × Astray heap.now (R.Readable.words memory.now)) }
+    fn trace(&mut self) -> Result<(), Fault>
+        requires { Sound self.old.heap.now (R.Readable.words self.old.memory.now) self.old.finds }
+        ensures over { (self.new.heap ≡ self.old.heap) × (self.new.memory ≡ self.old.memory) }
+        ensures finds { let h = self.old.heap.now in let m = R.Readable.words self.old.memory.now in
+            MatchResult result
+            (λ _. GoesOn h m self.old.finds self.new.finds × Closed h m self.new.finds (length (found self.new.finds)))
+            (LedAstray h m) }
     {
         let mut next = 0;
-        while next < self.count {
-            let object = self.list[next as usize];
-            self.follow(heap, memory, object)?;
+        while let Some(object) = self.finds.list.get(next).copied() {
+            self.follow(object)?;
             next += 1;
         }
         Ok(())
@@ -166,18 +148,26 @@ impl Finds {
 pub fn census<R: Readable>(heap: &Heap, memory: &R) -> Result<Count, Fault>
     ensures { Tells heap.now (R.Readable.words memory.now) (told result) }
 {
-    let Some(extent) = heap.extent() else {
-        return Err(refuse(Cause::Unprepared, Place::Nowhere));
-    };
+    let extent = heap
+        .extent()
+        .ok_or(Fault::nowhere(Layer::Census, Cause::Unprepared))?;
     let length = memory.len();
     if length < extent {
-        return Err(refuse(Cause::PastEnd, Place::Word(length)));
+        return Err(Fault {
+            cause: Cause::PastEnd,
+            layer: Layer::Census,
+            place: Place::Word(length),
+        });
     }
-    let mut finds = Finds::new();
-    finds.note_slots(heap)?;
-    finds.trace(heap, memory)?;
+    let mut walk = Walk {
+        heap,
+        memory,
+        finds: Finds::new(),
+    };
+    walk.note_slots()?;
+    walk.trace()?;
     Ok(Count {
-        objects: finds.count,
-        words: finds.words,
+        objects: walk.finds.list.len() as u16,
+        words: walk.finds.words,
     })
 }

@@ -1,12 +1,16 @@
 -- The kinds of a heap that begins, and its spare handles, in the words of std.
-use Rattle.std.proofs.Common.{◌≡◌, ℕ, zero, suc, ◌+◌, ◌<◌, ◌≤◌, cond, ◌&&◌, List, [], ◌∷◌, length, get_or, sum_by, count_by, refl, ap, sym, subst, inl, inr, ◌∙◌, add-one, arith}
+use Rattle.std.proofs.Common.{◌≡◌, ℕ, false, zero, suc, ◌+◌, ◌-◌, ◌<◌, ◌≤◌, cond, ◌&&◌, List, [], ◌∷◌, get_or, sum_by, count_by, refl, ap, sym, subst, inl, inr, ◌∙◌, add-one, arith}
 use denote.Param.Members.{Mut}
 use Rattle.std.specs.Fn.{Called}
 use Rattle.std.specs.Array.{IsFromFnResult, IsFromFnResultFrom}
+use Rattle.std.specs.declared.ops.RangeInclusive.{RangeInclusive}
+use Rattle.std.specs.Range.{range_inclusive_left, range_inclusive_steps}
+use Rattle.std.proofs.lemmas.Iterator.{YieldsList}
+use Rattle.std.proofs.lemmas.Iterator.Consumers.{YieldsList-from_shown}
 use Rattle.std.specs.List.{range_with_len, list_all}
-use Rattle.std.proofs.lemmas.Bool.{cases_eq}
+use Rattle.std.proofs.lemmas.Bool.{cases_eq, cases_Bool}
 use Rattle.std.proofs.lemmas.List.{map-id}
-use Rattle.std.proofs.lemmas.List.FromFn.{fill_by_all, sum_by-map-range_with_len_more}
+use Rattle.std.proofs.lemmas.List.FromFn.{length-range_with_len, fill_by_all, sum_by-map-range_with_len_more}
 use Rattle.kinds.specs.declared.Kind.{Kind}
 use Rattle.kinds.specs.Maps.{fits}
 use Rattle.heap.specs.declared.Handle.{Handle}
@@ -45,3 +49,27 @@ pub spares_laid : {F : Type 0} (g : Mut F (ℕ × Unit {0}) Handle) (f : F) (las
 unfolding spare_rows
 spares_laid g f last n xs m each =
     fill_by_all (spare_row last) xs n blank m.long (λ k l. made_by g (spare_row last) f each xs 0 n m.each k blank (omega arith) (omega arith))
+
+abbrev left_of : RangeInclusive ℕ → ℕ
+left_of s = range_inclusive_left (λ a b. b - a) s
+
+-- the numbers come one after the other
+each_comes : (s : RangeInclusive ℕ) → YieldsList (range_inclusive_steps (λ a b. b - a) (λ x y. y ≡ x + 1)) (λ x. x) s (range_with_len s.start (left_of s))
+each_comes s =
+    YieldsList-from_shown (range_inclusive_steps (λ a b. b - a) (λ x y. y ≡ x + 1)) (λ x. x) (λ r. range_with_len r.start (left_of r))
+    (λ r t n. length-range_with_len r.start (left_of r) ∙ n.1.0)
+    (λ r x t n.
+    let begins : x ≡ r.start = n.1.0 in
+    let one : range_with_len r.start (left_of r) ≡ r.start ∷ range_with_len (r.start + 1) (left_of t) = rw (sym n.1.1, add-one) in
+    elim (cases_Bool t.exhausted) [
+      | inl e ↦ (let none : left_of t ≡ 0 = rw e in one ∙ rw (begins, none))
+      | inr e ↦ (let next = n.1.2 e in one ∙ rw (begins, next))
+    ])
+    s
+
+-- 1, 2, .. up to the last
+pub counts_up : (s : RangeInclusive ℕ) (last : ℕ) → s.start ≡ 1 → s.end ≡ last → s.exhausted ≡ false → YieldsList (range_inclusive_steps (λ a b. b - a) (λ x y. y ≡ x + 1)) (λ x. x) s (range_with_len 1 last)
+counts_up s last a b e =
+    let n : left_of s ≡ last = rw (e, a, b) (omega arith) in
+    let is : range_with_len s.start (left_of s) ≡ range_with_len 1 last = rw (n, a) in
+    subst (YieldsList (range_inclusive_steps (λ a b. b - a) (λ x y. y ≡ x + 1)) (λ x. x) s) is (each_comes s)

@@ -14,6 +14,7 @@ use kinds::Kind;
 use memory::{Readable, Writable};
 
 impl Measures {
+    // The kind of a number, if there is one.
     pub(crate) fn kind(&self, number: u8) -> Option<Kind>
         ensures { MatchOption result ((is_kind self.now number ≡ false) × (kind_of self.now number ≡ no_kind))
             (λ k. (is_kind self.now number ≡ true) × (k ≡ kind_of self.now number)) }
@@ -260,6 +261,7 @@ impl Heap {
     }
 }
 
+// A call that gives nothing is done, one that gives no number answers absent.
 impl From<()> for Answer {
     ghost from_gives = { λ _ a. a ≡ Done };
 

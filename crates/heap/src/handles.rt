@@ -51,6 +51,7 @@ fn lent(handles: &mut [Handle], number: u16) -> Option<&mut Handle>
 }
 
 impl Table {
+    // The handle of a number.
     pub(crate) fn handle(&self, number: usize) -> Handle
         ensures value { result ≡ row self.now number }
         ensures past { 257 ≤ number → result ≡ blank }
@@ -58,6 +59,7 @@ impl Table {
         self.handles.get(number).copied().unwrap_or_default()
     }
 
+    // Whether it is spare.
     pub(crate) fn is_spare(&self, number: usize) -> bool
         ensures value { result ≡ is_spare (state_of self.now number) }
         ensures past { 257 ≤ number → result ≡ true }

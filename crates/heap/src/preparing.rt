@@ -38,12 +38,11 @@ impl Measures {
             (λ m. (measures_fit limits kinds.now ≡ true) × (m.limits ≡ limits) × (m.kinds.items ≡ kinds.now))
             (λ e. (measures_fit limits kinds.now ≡ false) × (refusal e ≡ in_heap 11)) }
     {
-        let wrong = Fault::nowhere(Layer::Heap, Cause::WrongMeasures);
-        if !limits.is_legal() || kinds.is_empty() || !all_legal(kinds) {
-            return Err(wrong);
+        let legal = limits.is_legal() && !kinds.is_empty() && all_legal(kinds);
+        match ArrayVec::try_from(kinds) {
+            Ok(kinds) if legal => Ok(Measures { limits, kinds }),
+            _ => Err(Fault::nowhere(Layer::Heap, Cause::WrongMeasures)),
         }
-        let kinds = ArrayVec::try_from(kinds).map_err(|_| wrong)?;
-        Ok(Measures { limits, kinds })
     }
 }
 

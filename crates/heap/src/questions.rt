@@ -1,10 +1,9 @@
 // What a heap tells of itself.
-ghost use Rattle.std.specs.Prelude.{◌≡◌, ◌≤◌, false, count_by};
-ghost use Rattle.std.specs.List.{range_with_len};
-ghost use Rattle.heap.specs.Handles.{is_spare, state_of, row};
+ghost use Rattle.std.specs.Prelude.{◌≡◌, ◌≤◌, false};
+ghost use Rattle.heap.specs.Handles.{row};
 ghost use Rattle.heap.specs.Objects.{kind_of, loc};
 ghost use Rattle.heap.specs.Answers.{of_option};
-ghost use Rattle.heap.specs.Room.{spare_handles, free_words, is_idle, kind_size, extent as extent_of, in_use};
+ghost use Rattle.heap.specs.Room.{spares_to, spare_handles, free_words, is_idle, kind_size, extent as extent_of, in_use};
 
 use crate::{Heap, Phase, Table};
 use kinds::Kind;
@@ -12,17 +11,16 @@ use kinds::Kind;
 impl Table {
     // How many of the handles from 1 to the last are spare.
     fn spares(&self, last: u16) -> u16
-        ensures { result ≡ count_by (λ x. is_spare (state_of self.now x)) (range_with_len 1 last) }
+        ensures { result ≡ spares_to self.now last }
     {
-        (1..last as usize + 1)
-            .filter(|number| self.is_spare(*number))
+        (1..=last)
+            .filter(|number| self.is_spare(*number as usize))
             .count() as u16
     }
 }
 
 impl Heap {
     // How many handles are spare.
-    #[tactic(auto, using(crate::proofs::Begins::spares_counted))]
     pub fn spare_handles(&self) -> u16
         ensures { result ≡ spare_handles self.now }
     {

@@ -8,12 +8,13 @@ use crate::task::{Share, Task};
 
 // The least whole number not below p / q.
 pub(crate) fn up(p: u32, q: u32) -> u32
-    requires { 1 ≤ q }
+    requires some { 1 ≤ q }
+    requires small { (q ≤ 2000000) × (p ≤ 2000000) }
     ensures value { result ≡ lifted p q }
     ensures law { RoundsUp p q result }
     ensures small { result ≤ p }
 {
-    p.div_ceil(q)
+    (p + (q - 1)) / q
 }
 
 // One in this many parts of a tick, for shares of the time that are rounded down.

@@ -1,13 +1,9 @@
-use fault::{Cause, Fault, Layer, Place};
+use fault::{Cause, Fault, Layer};
 use std::test::Fail;
 
 #[test]
 fn tells_number_layer_and_place(rt: HostRuntime) {
-    let fault = Fault {
-        cause: Cause::NotANumber,
-        layer: Layer::Text,
-        place: Place::Line { line: 4, column: 6 },
-    };
+    let fault = Fault::in_line(Layer::Text, Cause::NotANumber, 4, 6);
     assert_eq!(rt; fault.number(), 3);
     assert_eq!(rt; fault.layer_name(), "text");
     assert_eq!(rt; fault.place_number(), 4);
@@ -17,16 +13,8 @@ fn tells_number_layer_and_place(rt: HostRuntime) {
 #[test]
 fn reads_as_a_sentence(rt: HostRuntime) -> Result<(), Fail> {
     let heap = rt.alloc();
-    let nowhere = Fault {
-        cause: Cause::EmptySlot,
-        layer: Layer::Heap,
-        place: Place::Nowhere,
-    };
-    let line = Fault {
-        cause: Cause::MissesDeadline,
-        layer: Layer::Admission,
-        place: Place::Line { line: 5, column: 0 },
-    };
+    let nowhere = Fault::nowhere(Layer::Heap, Cause::EmptySlot);
+    let line = Fault::in_line(Layer::Admission, Cause::MissesDeadline, 5, 0);
     assert_eq!(rt;
         Fault::past_end(64).to_string(heap)?.as_str(),
         "refusal 1 of the memory at word 64: the place is past the end of the memory"

@@ -4,12 +4,9 @@ use std::test::Fail;
 
 // The place of a refusal with number 1 by the memory, or none.
 fn past_end<T: Drop>(r: Result<T, Fault>) -> Option<usize> {
-    match r {
-        Err(fault) if fault.number() == 1 && fault.layer_name() == "memory" => Some(
-            fault.place_number(),
-        ),
-        _ => None,
-    }
+    r.err()
+        .filter(|fault| fault.number() == 1 && fault.layer_name() == "memory")
+        .map(|fault| fault.place_number())
 }
 
 #[test]

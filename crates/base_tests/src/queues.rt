@@ -14,10 +14,10 @@ fn empty_and_full(rt: HostRuntime) -> Result<(), Fail> {
     let mut room = [rank(0, 0); 1];
     let mut queue = Queue::new(&mut room);
     queue.put(rank(5, 5))?;
-    match queue.put(rank(4, 4)) {
-        Ok(()) => return Err(Fail::new("a full queue took one more")),
-        Err(fault) => assert_eq!(rt; fault.number(), 26),
-    }
+    assert_eq!(rt;
+        queue.put(rank(4, 4)).map_err(|fault| fault.number()),
+        Err(26)
+    );
     assert_eq!(rt; queue.len(), 1);
     assert_eq!(rt; queue.take(), Some(rank(5, 5)));
     assert_eq!(rt; queue.take(), None);
@@ -72,17 +72,12 @@ fn the_collector_is_last_at_its_tick(rt: HostRuntime) -> Result<(), Fail> {
         rank: 16,
         source: Source::Task(1),
     })?;
-    let mut ticks = [0u64; 3];
-    let mut tasks = [0u8; 3];
-    for i in 0..3 {
-        if let Some(release) = queue.take() {
-            ticks[i] = release.tick;
-            if let Source::Task(task) = release.source {
-                tasks[i] = task;
-            }
-        }
-    }
-    assert_eq!(rt; ticks, [99, 100, 100]);
-    assert_eq!(rt; tasks, [1, 200, 0]);
+    let mut taken = [collector; 3];
+    assert_eq!(rt; take_all(&mut queue, &mut taken), 3);
+    assert_eq!(rt; taken.map(|release| release.tick), [99, 100, 100]);
+    assert_eq!(rt;
+        taken.map(|release| release.source),
+        [Source::Task(1), Source::Task(200), Source::Collector]
+    );
     Ok(())
 }

@@ -1,42 +1,47 @@
--- The kinds of a heap that begins, one by one; and its spare handles, counted.
-use Rattle.std.proofs.Common.{◌≡◌, ℕ, ◌+◌, ◌-◌, ◌<◌, ◌≤◌, true, cond, ◌&&◌, List, ◌∷◌, ◌++◌, length, get_or, drop, replicate, refl, ap, ◌∙◌, add-one, arith}
-use lib.Seq.{paste}
-use Rattle.std.proofs.lemmas.List.{drop_more, drop_all, drop-replicate, take-replicate}
-use Rattle.std.proofs.lemmas.List.Edits.{paste_all}
+-- The kinds of a heap that begins, and its spare handles, in the words of std.
+use Rattle.std.proofs.Common.{◌≡◌, ℕ, zero, suc, ◌+◌, ◌<◌, ◌≤◌, cond, ◌&&◌, List, [], ◌∷◌, length, get_or, sum_by, count_by, refl, ap, sym, subst, inl, inr, ◌∙◌, add-one, arith}
+use denote.Param.Members.{Mut}
+use Rattle.std.specs.Fn.{Called}
+use Rattle.std.specs.Array.{IsFromFnResult, IsFromFnResultFrom}
+use Rattle.std.specs.List.{range_with_len, list_all}
+use Rattle.std.proofs.lemmas.Bool.{cases_eq}
+use Rattle.std.proofs.lemmas.List.{map-id}
+use Rattle.std.proofs.lemmas.List.FromFn.{fill_by_all, sum_by-map-range_with_len_more}
 use Rattle.kinds.specs.declared.Kind.{Kind}
 use Rattle.kinds.specs.Maps.{fits}
+use Rattle.heap.specs.declared.Handle.{Handle}
 use Rattle.heap.specs.declared.Table.{Table}
-use Rattle.heap.specs.Handles.{is_spare, state_of}
-use Rattle.heap.specs.Objects.{no_kind}
-use Rattle.heap.specs.Start.{all_fit, numbered}
+use Rattle.heap.specs.Handles.{blank, is_spare, state_of}
+use Rattle.heap.specs.Start.{all_fit, spare_row, spare_rows}
 use Rattle.heap.specs.Room.{spares_to}
 
-pub fit_more : (ks : List Kind) (i : ℕ) → i < length ks → all_fit (drop i ks) ≡ (fits (get_or ks i no_kind) && all_fit (drop (i + 1) ks))
+pub fit_each : (ks : List Kind) → all_fit ks ≡ list_all fits ks
 unfolding all_fit
-fit_more ks i h = rw (drop_more ks i no_kind h)
+fit_each [] = refl
+fit_each (k ∷ ks) = ap (λ b. fits k && b) (fit_each ks)
 
-pub fit_all : (ks : List Kind) (i : ℕ) → length ks ≤ i → all_fit (drop i ks) ≡ true
-unfolding all_fit
-fit_all ks i h = rw (drop_all i ks h)
-
--- laid over n blank rows, from row 1
-over_blank : {X : Type 0} (xs : List X) (y : X) (n : ℕ) → length xs < n → paste (replicate n y) 1 xs (length xs) ≡ y ∷ (xs ++ replicate (n - (1 + length xs)) y)
-over_blank xs y n h =
-    let a = paste_all (replicate n y) 1 xs (length xs) refl in
-    let b = drop-replicate (1 + length xs) n y in
-    let c = take-replicate 1 n y (omega arith) in
-    a ∙ (rw (b, c))
-
-pub rows_laid : (ks : List Kind) → length ks ≤ 32 → paste (replicate 33 no_kind) 1 ks (length ks) ≡ numbered ks
-unfolding numbered
-rows_laid ks h =
-    let n : 33 - (1 + length ks) ≡ 32 - length ks = omega arith in
-    over_blank ks no_kind 33 (omega arith) ∙ ap (λ m. no_kind ∷ (ks ++ replicate m no_kind)) n
-
-pub spares_none : (t : Table) → spares_to t 0 ≡ 0
+pub spares_counted : (t : Table) (n : ℕ) → spares_to t n ≡ count_by (λ x. is_spare (state_of t x)) (range_with_len 1 n)
 unfolding spares_to
-spares_none t = refl
+spares_counted t zero = refl
+spares_counted t (suc n) =
+    let g : ℕ → ℕ = λ x. cond (is_spare (state_of t x)) 1 0 in
+    let more : sum_by g (range_with_len 1 (n + 1)) ≡ sum_by g (range_with_len 1 n) + g (suc n) =
+    simp map-id at (sum_by-map-range_with_len_more g (λ x. x) 1 n (suc n) (omega arith)) in
+    ap (λ m. m + g (suc n)) (spares_counted t n) ∙ sym (rw add-one at more)
 
-pub spares_more : (t : Table) (n : ℕ) → spares_to t (n + 1) ≡ spares_to t n + cond (is_spare (state_of t (n + 1))) 1 0
-unfolding spares_to
-spares_more t n = rw add-one
+-- an array made by calls that leave their closure as it is
+made_by : {F X : Type 0} (g : Mut F (ℕ × Unit {0}) X) (h : ℕ → X) (f : F) → ((x : ℕ) (r : X) (q : F) → Called g f (x, tt) r q → (q ≡ f) × (r ≡ h x)) → (xs : List X) (i n : ℕ) → IsFromFnResultFrom g f xs i n
+    → (k : ℕ) (d : X) → i ≤ k → k < i + n → get_or xs k d ≡ h k
+made_by g h f each xs i zero m k d l u = absurd (omega arith)
+made_by g h f each xs i (suc n) m k d l u =
+    let s = each i m.1 m.0 m.3 in
+    elim (cases_eq k i) [
+      | inl e ↦ (rw e (m.2.1 d ∙ s.1))
+      | inr e ↦ made_by g h f each xs (i + 1) n (subst (λ p. IsFromFnResultFrom g p xs (i + 1) n) s.0 m.4) k d (omega arith) (omega arith)
+    ]
+
+pub spares_laid : {F : Type 0} (g : Mut F (ℕ × Unit {0}) Handle) (f : F) (last n : ℕ) (xs : List Handle) → IsFromFnResult g f xs n → ((x : ℕ) (r : Handle) (q : F) → Called g f (x, tt) r q → (q ≡ f) × (r ≡ spare_row last x))
+    → xs ≡ spare_rows n last
+unfolding spare_rows
+spares_laid g f last n xs m each =
+    fill_by_all (spare_row last) xs n blank m.long (λ k l. made_by g (spare_row last) f each xs 0 n m.each k blank (omega arith) (omega arith))

@@ -7,3 +7,4 @@ pub mod Start
 pub mod Room
 pub mod Graph
 pub mod Laws
+pub mod Lending

@@ -1,5 +1,5 @@
 -- Objects: their kinds, sizes and reference words, where their words are, and what leads to them.
-use Rattle.std.specs.Prelude.{◌≡◌, ℕ, ◌+◌, ◌*◌, Bool, true, cond, ◌&&◌, ◌≢◌, List, [], ◌∷◌, ◌==◌, nat_le, nat_lt, slice_index, slice_index_or}
+use Rattle.std.specs.Prelude.{◌≡◌, ℕ, ◌+◌, ◌*◌, Bool, true, cond, ◌&&◌, ◌≢◌, List, [], ◌∷◌, length, ◌==◌, nat_le, nat_lt, slice_index, slice_index_or}
 use Rattle.kinds.specs.declared.Kind.{Kind}
 use Rattle.kinds.specs.Maps.{refers}
 use Rattle.heap.specs.declared.Table.{Table}
@@ -13,7 +13,7 @@ abbrev pub no_kind : Kind
 no_kind = record { size = 0; map = 0 }
 
 abbrev pub kind_of : Measures → ℕ → Kind
-kind_of a k = slice_index_or a.kinds k no_kind
+kind_of a k = slice_index_or (no_kind ∷ a.kinds.items) k no_kind
 
 -- the words of memory that the two spaces take
 abbrev pub footprint : Limits → ℕ
@@ -29,7 +29,7 @@ ref_in a k j = refers (kind_of a k) j
 
 -- kinds are numbered from 1
 abbrev pub is_kind : Measures → ℕ → Bool
-is_kind a k = nat_le 1 k && nat_le k a.count
+is_kind a k = nat_le 1 k && nat_le k (length a.kinds.items)
 
 -- the size of the object of a handle
 abbrev pub size_of : Measures → Table → ℕ → ℕ

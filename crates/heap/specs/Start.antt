@@ -1,5 +1,5 @@
 -- A bare heap, the measures, and what prepare makes of them.
-use Rattle.std.specs.Prelude.{ℕ, ◌+◌, ◌-◌, Bool, true, false, cond, ◌&&◌, List, [], ◌∷◌, ◌++◌, map, length, replicate, nat_le, nat_lt}
+use Rattle.std.specs.Prelude.{ℕ, ◌+◌, Bool, true, false, cond, ◌&&◌, List, [], ◌∷◌, map, length, replicate, nat_le, nat_lt}
 use Rattle.std.specs.List.{range_with_len}
 use Rattle.fault.specs.Told.{Told, answered, refused, past_end}
 use Rattle.memory.specs.Words.{zeroed}
@@ -10,9 +10,10 @@ use Rattle.heap.specs.declared.Handle.{Handle}
 use Rattle.heap.specs.declared.Heap.{Heap}
 use Rattle.heap.specs.declared.Limits.{Limits}
 use Rattle.heap.specs.declared.Phase.TheVariants.{Idle}
+use Rattle.heap.specs.declared.Table.{Table}
 use Rattle.heap.specs.declared.State.TheVariants.{Spare}
 use Rattle.heap.specs.Handles.{blank}
-use Rattle.heap.specs.Objects.{no_kind, footprint}
+use Rattle.heap.specs.Objects.{footprint}
 use Rattle.heap.specs.Answers.{Ans, ok, in_heap}
 
 -- a space has 1 to 8,192 words, there are 1 to 256 handles, and no more is declared to live than there is
@@ -29,16 +30,16 @@ all_fit (k ∷ ks) = fits k && all_fit ks
 abbrev pub measures_fit : Limits → List Kind → Bool
 measures_fit l ks = limits_fit l && nat_le 1 (length ks) && nat_le (length ks) 32 && all_fit ks
 
--- the kinds at their numbers, from 1
-unfoldable pub numbered : List Kind → List Kind
-numbered ks = no_kind ∷ (ks ++ replicate (32 - length ks) no_kind)
-
 -- the spare chain first reads 1, 2, .. n
 abbrev pub spare_row : ℕ → ℕ → Handle
 spare_row n x = record { kind = 0; place = 0; link = cond (nat_lt x n) (x + 1) 0; state = Spare }
 
 unfoldable pub spare_rows : ℕ → ℕ → List Handle
 spare_rows rows n = map (spare_row n) (range_with_len 0 rows)
+
+-- the spare chain reads 1, 2, .. n, and none is marked
+abbrev pub spare_table : ℕ → Table
+spare_table n = record { handles = spare_rows 257 n; spare = 1; marked = 0 }
 
 -- no collection yet, and nothing born
 abbrev pub still : Cycle
@@ -52,7 +53,7 @@ still = record {
 abbrev pub bare : Heap
 bare = record {
   prepared = false;
-  measures = record { limits = record { space = 0; handles = 0; live_words = 0; live_objects = 0 }; count = 0; kinds = replicate 33 no_kind };
+  measures = record { limits = record { space = 0; handles = 0; live_words = 0; live_objects = 0 }; kinds = record { items = [] } };
   table = record { handles = replicate 257 blank; spare = 0; marked = 0 };
   slots = replicate 192 0;
   cycle = still;
@@ -61,8 +62,8 @@ bare = record {
 abbrev pub fresh : Limits → List Kind → Heap
 fresh l ks = record {
   prepared = true;
-  measures = record { limits = l; count = length ks; kinds = numbered ks };
-  table = record { handles = spare_rows 257 l.handles; spare = 1; marked = 0 };
+  measures = record { limits = l; kinds = record { items = ks } };
+  table = spare_table l.handles;
   slots = replicate 192 0;
   cycle = still;
 }

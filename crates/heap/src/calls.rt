@@ -1,49 +1,25 @@
 // The nine calls. Each is refused for the first reason that the definitions name, and a refused call changes nothing.
-ghost use Rattle.std.specs.Prelude.{◌≡◌, ◌<◌, ◌≤◌, true, false, ◌⊎◌, length, MatchResult, ◌==◌, slice_index, slice_index_or, slice_set};
+ghost use Rattle.std.specs.Prelude.{◌≡◌, ◌<◌, ◌≤◌, true, false, ◌⊎◌, length, MatchOption, MatchResult, ◌==◌, slice_index, slice_index_or, slice_set};
 ghost use Rattle.fault.specs.Told.{refusal};
 ghost use Rattle.heap.specs.Objects.{no_kind, kind_of, size_in, is_kind, view};
 ghost use Rattle.heap.specs.Answers.{ok, num, says, of_unit, of_option, of_answer, tells, in_heap, refusal_at, ruled, judged};
 ghost use Rattle.heap.specs.Calls.{on_object, is_tracing, birth_limit, barred, on_reading, on_overwriting, held, spot, with_slot, birth, guarded, taken, kind_held, telling, heap_after, memory_after, calling};
+ghost use Rattle.heap.specs.declared.Answer.TheVariants.{Done, Absent, Number, Truth};
 ghost use Rattle.heap.specs.declared.Call.TheVariants.{New as calls_new, Copy as calls_copy, Drop as calls_drop, Fetch as calls_fetch, Put as calls_put, Read as calls_read, Write as calls_write, Same as calls_same, Kind as calls_kind};
 ghost use Rattle.heap.specs.Laws.{SmallCall};
 
-use crate::{Answer, Call, Course, Heap, Measures, Phase, refuse};
-use fault::{Cause, Fault};
+use crate::{Answer, Call, Course, Heap, Measures, Phase};
+use fault::{Cause, Fault, Layer};
 use kinds::Kind;
 use memory::{Readable, Writable};
 
-impl Phase {
-    fn is_tracing(self) -> bool
-        ensures { result ≡ is_tracing self }
-    {
-        match self {
-            Phase::Tracing => true,
-            _ => false,
-        }
-    }
-}
-
-fn kind_at(kinds: &[Kind], number: u8) -> Kind
-    ensures { result ≡ slice_index_or kinds.now number no_kind }
-{
-    if (number as usize) < kinds.len() {
-        kinds[number as usize]
-    } else {
-        Kind { size: 0, map: 0 }
-    }
-}
-
 impl Measures {
-    pub(crate) fn kind(&self, number: u8) -> Kind
-        ensures { result ≡ kind_of self.now number }
+    pub(crate) fn kind(&self, number: u8) -> Option<Kind>
+        ensures { MatchOption result ((is_kind self.now number ≡ false) × (kind_of self.now number ≡ no_kind))
+            (λ k. (is_kind self.now number ≡ true) × (k ≡ kind_of self.now number)) }
     {
-        kind_at(&self.kinds, number)
-    }
-
-    pub(crate) fn has_kind(&self, number: u8) -> bool
-        ensures { result ≡ is_kind self.now number }
-    {
-        number >= 1 && number <= self.count
+        let place = number.checked_sub(1)?;
+        self.kinds.get(place as usize).copied()
     }
 }
 
@@ -56,15 +32,16 @@ impl Heap {
             ⊎ ((self.now.prepared ≡ true) × (192 ≤ slot) × (refusal e ≡ in_heap 13))) }
     {
         if !self.prepared {
-            return Err(refuse(Cause::Unprepared));
+            return Err(Fault::nowhere(Layer::Heap, Cause::Unprepared));
         }
-        if slot >= 192 {
-            return Err(refuse(Cause::NoSuchSlot));
-        }
-        Ok(self.slots[slot as usize])
+        self.slots
+            .get(slot as usize)
+            .copied()
+            .ok_or(Fault::nowhere(Layer::Heap, Cause::NoSuchSlot))
     }
 
     // A word of an object is wanted, as a reference or as a number.
+    #[tactic(auto, unfolding(crate::specs::Calls::on_object))]
     fn want(&self, object: u16, word: u16, reference: bool) -> Result<(), Fault>
         ensures { MatchResult result
             (λ _. on_object (view self.now) object word reference ≡ 0)
@@ -72,14 +49,14 @@ impl Heap {
             × (refusal e ≡ in_heap (on_object (view self.now) object word reference))) }
     {
         if object == 0 {
-            return Err(refuse(Cause::EmptySlot));
+            return Err(Fault::nowhere(Layer::Heap, Cause::EmptySlot));
         }
         let kind = self.kind_of(object);
         if word >= kind.size as u16 {
-            return Err(refuse(Cause::NoSuchWord));
+            return Err(Fault::nowhere(Layer::Heap, Cause::NoSuchWord));
         }
         if kind.refers(word) != reference {
-            return Err(refuse(Cause::WrongSort));
+            return Err(Fault::nowhere(Layer::Heap, Cause::WrongSort));
         }
         Ok(())
     }
@@ -147,10 +124,8 @@ impl Heap {
         ensures { tells of_option result ≡ judged (barred self.now (calls_kind slot)) (kind_held self.now slot) }
     {
         let object = self.slot(slot)?;
-        if object == 0 {
-            return Ok(None);
-        }
-        Ok(Some(self.table.handle(object as usize).kind))
+        let kind = self.table.handle(object as usize).kind;
+        Ok((object != 0).then_some(kind))
     }
 
     // The words that may be born between two flips.
@@ -172,17 +147,17 @@ impl Heap {
         ensures heap { self.new ≡ taken (barred self.old (calls_new slot kind)) (birth self.old slot kind (size_in self.old.measures kind)) self.old }
     {
         self.slot(slot)?;
-        if !self.measures.has_kind(kind) {
-            return Err(refuse(Cause::NoSuchKind));
-        }
+        let size = self
+            .kind_size(kind)
+            .ok_or(Fault::nowhere(Layer::Heap, Cause::NoSuchKind))?;
         let course = self.cycle.course;
-        let born = course.born as u32 + self.measures.kind(kind).size as u32;
+        let born = course.born as u32 + size as u32;
         if born > self.birth_limit() as u32 {
-            return Err(refuse(Cause::SpaceFull));
+            return Err(Fault::nowhere(Layer::Heap, Cause::SpaceFull));
         }
         let number = self.table.spare;
         if number == 0 {
-            return Err(refuse(Cause::NoSpareHandle));
+            return Err(Fault::nowhere(Layer::Heap, Cause::NoSpareHandle));
         }
         let top = course.base as u32 + self.measures.limits.space as u32;
         self.table.bear(kind, top - born);
@@ -218,6 +193,7 @@ impl Heap {
     }
 
     // The handle that the reference at a place names.
+    #[tactic(auto, unfolding(crate::specs::Calls::on_reading))]
     fn reference_at<R: Readable>(&self, memory: &R, place: usize) -> Result<u16, Fault>
         ensures { MatchResult result
             (λ x. (on_reading self.now.table (R.Readable.words memory.now) place ≡ 0)
@@ -258,7 +234,7 @@ impl Heap {
         ensures heap { self.new ≡ taken (on_overwriting self.old (M.Readable.words memory.old) place) (guarded self.old (slice_index (M.Readable.words memory.old) place)) self.old }
         ensures words { M.Readable.words memory.new ≡ taken (on_overwriting self.old (M.Readable.words memory.old) place) (slice_set (M.Readable.words memory.old) place object) (M.Readable.words memory.old) }
     {
-        if !self.cycle.phase.is_tracing() {
+        if self.cycle.phase != Phase::Tracing {
             return memory.set(place, object as u32);
         }
         let overwritten = self.reference_at(memory, place)?;
@@ -284,45 +260,44 @@ impl Heap {
     }
 }
 
-fn done(r: Result<(), Fault>) -> Result<Answer, Fault>
-    ensures { tells of_answer result ≡ tells of_unit r }
-{
-    match r {
-        Ok(()) => Ok(Answer::Done),
-        Err(e) => Err(e),
+impl From<()> for Answer {
+    ghost from_gives = { λ _ a. a ≡ Done };
+
+    fn from(_done: ()) -> Answer {
+        Answer::Done
     }
 }
 
-fn number(r: Result<u32, Fault>) -> Result<Answer, Fault>
-    ensures { tells of_answer result ≡ tells num r }
-{
-    match r {
-        Ok(n) => Ok(Answer::Number(n)),
-        Err(e) => Err(e),
+impl From<u32> for Answer {
+    ghost from_gives = { λ n a. a ≡ Number n };
+
+    fn from(number: u32) -> Answer {
+        Answer::Number(number)
     }
 }
 
-fn truth(r: Result<bool, Fault>) -> Result<Answer, Fault>
-    ensures { tells of_answer result ≡ tells says r }
-{
-    match r {
-        Ok(b) => Ok(Answer::Truth(b)),
-        Err(e) => Err(e),
+impl From<bool> for Answer {
+    ghost from_gives = { λ b a. a ≡ Truth b };
+
+    fn from(truth: bool) -> Answer {
+        Answer::Truth(truth)
     }
 }
 
-fn number_or_absent(r: Result<Option<u8>, Fault>) -> Result<Answer, Fault>
-    ensures { tells of_answer result ≡ tells of_option r }
-{
-    match r {
-        Ok(Some(n)) => Ok(Answer::Number(n as u32)),
-        Ok(None) => Ok(Answer::Absent),
-        Err(e) => Err(e),
+impl From<Option<u8>> for Answer {
+    ghost from_gives = { λ o a. MatchOption o (a ≡ Absent) (λ n. a ≡ Number n) };
+
+    fn from(number: Option<u8>) -> Answer {
+        match number {
+            Some(number) => Answer::Number(number as u32),
+            None => Answer::Absent,
+        }
     }
 }
 
 impl Heap {
     // Any of the nine calls.
+    #[tactic(auto, using(crate::proofs::Small::small_call))]
     pub fn call<M: Writable>(&mut self, memory: &mut M, call: Call) -> Result<Answer, Fault>
         ensures answer { tells of_answer result ≡ (calling self.old (M.Readable.words memory.old) call).told }
         ensures heap { self.new ≡ (calling self.old (M.Readable.words memory.old) call).heap }
@@ -330,15 +305,17 @@ impl Heap {
         ensures small { SmallCall self.old (M.Readable.words memory.old) call }
     {
         match call {
-            Call::New { slot, kind } => done(self.new_object(slot, kind)),
-            Call::Copy { from, to } => done(self.copy_slot(from, to)),
-            Call::Drop { slot } => done(self.drop_slot(slot)),
-            Call::Fetch { slot, word, to } => done(self.fetch(memory, slot, word, to)),
-            Call::Put { slot, word, from } => done(self.put(memory, slot, word, from)),
-            Call::Read { slot, word } => number(self.read(memory, slot, word)),
-            Call::Write { slot, word, value } => done(self.write(memory, slot, word, value)),
-            Call::Same { one, other } => truth(self.same(one, other)),
-            Call::Kind { slot } => number_or_absent(self.kind(slot)),
+            Call::New { slot, kind } => self.new_object(slot, kind).map(Answer::from),
+            Call::Copy { from, to } => self.copy_slot(from, to).map(Answer::from),
+            Call::Drop { slot } => self.drop_slot(slot).map(Answer::from),
+            Call::Fetch { slot, word, to } => self.fetch(memory, slot, word, to).map(Answer::from),
+            Call::Put { slot, word, from } => self.put(memory, slot, word, from).map(Answer::from),
+            Call::Read { slot, word } => self.read(memory, slot, word).map(Answer::from),
+            Call::Write { slot, word, value } => self
+                .write(memory, slot, word, value)
+                .map(Answer::from),
+            Call::Same { one, other } => self.same(one, other).map(Answer::from),
+            Call::Kind { slot } => self.kind(slot).map(Answer::from),
         }
     }
 }

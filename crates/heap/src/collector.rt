@@ -8,8 +8,8 @@ ghost use Rattle.heap.specs.Calls.{with_table, taken};
 ghost use Rattle.heap.specs.Steps.{tallied, moved, passed, phase_after, after_flip, on_bounds, taken_up, advanced, source, next_named, on_next, copy_step, swept, clear_step, step};
 ghost use Rattle.heap.specs.Laws.{SmallStep};
 
-use crate::{Course, Cycle, Heap, Phase, Report, Table, refuse};
-use fault::{Cause, Fault};
+use crate::{Course, Cycle, Heap, Phase, Report, Table};
+use fault::{Cause, Fault, Layer};
 use kinds::Kind;
 use memory::{Readable, Writable};
 
@@ -54,9 +54,9 @@ impl Heap {
         let tally = self.cycle.tally.and_step(objects, words);
         self.cycle = Cycle {
             phase,
-            flipped: self.cycle.flipped,
             course,
             tally,
+            ..self.cycle
         };
     }
 
@@ -72,8 +72,7 @@ impl Heap {
     fn mark_slots(&mut self)
         ensures { self.new ≡ with_table self.old (mark_all self.old.table self.old.slots) }
     {
-        for slot in 0..192 {
-            let object = self.slots[slot];
+        for object in self.slots {
             self.table.mark(object);
         }
     }
@@ -91,15 +90,11 @@ impl Heap {
             flipped: true,
             course: Course {
                 base,
-                born: 0,
-                settled: 0,
-                mover: 0,
-                done: 0,
+                ..Course::default()
             },
             tally: Report {
                 steps: 1,
-                objects: 0,
-                words: 0,
+                ..Report::default()
             },
         };
     }
@@ -114,7 +109,7 @@ impl Heap {
         let object = self.table.marked;
         let words = tally.words as u32 + self.kind_of(object).size as u32;
         if tally.objects >= limits.live_objects || words > limits.live_words as u32 {
-            return Err(refuse(Cause::LiveBoundPassed));
+            return Err(Fault::nowhere(Layer::Heap, Cause::LiveBoundPassed));
         }
         self.table.take_up();
         let course = Course {
@@ -152,6 +147,7 @@ impl Heap {
     }
 
     // The next word of the object that moves, and the handle that it names, 0 for none and for a number.
+    #[tactic(auto, unfolding(crate::specs::Steps::on_next))]
     fn next_word<R: Readable>(&self, memory: &R) -> Result<(u32, u16), Fault>
         ensures { MatchResult result
             (λ p. (on_next self.now (R.Readable.words memory.now) ≡ 0)
@@ -220,6 +216,7 @@ impl Heap {
 
     // One step of the collector, by its phase, the object that moves and the chain of marked handles. The last step of a collection
     // answers its steps, objects and words; any other answers absent.
+    #[tactic(auto, using(crate::proofs::Small::small_step))]
     pub fn step<M: Writable>(&mut self, memory: &mut M) -> Result<Option<Report>, Fault>
         ensures answer { tells of_step result ≡ (step self.old (M.Readable.words memory.old)).told }
         ensures heap { self.new ≡ (step self.old (M.Readable.words memory.old)).heap }
@@ -227,7 +224,7 @@ impl Heap {
         ensures small { SmallStep self.old (M.Readable.words memory.old) }
     {
         if !self.prepared {
-            return Err(refuse(Cause::Unprepared));
+            return Err(Fault::nowhere(Layer::Heap, Cause::Unprepared));
         }
         match (self.cycle.phase, self.cycle.course.mover, self.table.marked) {
             (Phase::Idle, _, _) => {

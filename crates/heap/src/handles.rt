@@ -1,95 +1,53 @@
 // The handle table and its moves. A number past the table reads as a spare handle, and a change there changes nothing.
-ghost use Rattle.std.specs.Prelude.{◌≡◌, ◌≤◌, true, false, map, MatchResult, slice_index_or, slice_set};
+ghost use Rattle.std.specs.Prelude.{◌≡◌, ◌<◌, ◌≤◌, true, false, if◌then◌else◌, length, MatchOption, MatchResult, slice_index_or};
+ghost use Rattle.std.specs.Borrow.{sem};
 ghost use Rattle.fault.specs.Told.{refusal};
-ghost use Rattle.heap.specs.Handles.{is_spare, is_old, blank, row, stray, linked, named, mark, pop_marked, settle, sweep, pop_spare, age, aged};
+ghost use Rattle.heap.specs.Lending.{LendsHandle};
+ghost use Rattle.heap.specs.Handles.{is_spare, is_old, blank, row, state_of, with_row, stray, linked, named, mark, pop_marked, settle, sweep, pop_spare, age, aged};
 ghost use Rattle.heap.specs.Answers.{in_heap};
 
-use crate::{Handle, State, Table, refuse};
-use fault::{Cause, Fault};
+use crate::{Handle, State, Table};
+use fault::{Cause, Fault, Layer};
 
-impl State {
-    pub(crate) fn is_spare(self) -> bool
-        ensures { result ≡ is_spare self }
+impl Handle {
+    // A link and a state are taken.
+    fn link_as(&mut self, link: u16, state: State)
+        ensures { self.new ≡ linked self.old link state }
     {
-        match self {
-            State::Spare => true,
-            _ => false,
-        }
+        self.link = link;
+        self.state = state;
     }
 
-    fn is_old(self) -> bool
-        ensures { result ≡ is_old self }
+    // An object that stands in the current space is named.
+    fn name_object(&mut self, kind: u8, place: u32)
+        ensures { self.new ≡ named self.old kind place }
     {
-        match self {
-            State::Old => true,
-            _ => false,
+        self.kind = kind;
+        self.place = place;
+        self.state = State::New;
+    }
+
+    // A handle in use becomes old.
+    fn grow_old(&mut self)
+        ensures { self.new ≡ age self.old }
+    {
+        if self.state != State::Spare {
+            self.state = State::Old;
         }
     }
 }
 
-// One handle, lent, takes a link and a state.
-fn link_as(handle: &mut Handle, link: u16, state: State)
-    ensures { handle.new ≡ linked handle.old link state }
+// The handle of a number, lent, if there is one.
+fn lent(handles: &mut [Handle], number: u16) -> Option<&mut Handle>
+    ensures here { MatchOption result (length handles.old ≤ number)
+        (λ r. (number < length handles.old) × (r.now ≡ slice_index_or handles.old number blank)) }
+    ensures* writes_back { sem 𝓛 (LendsHandle handles.entry number result) }
 {
-    handle.link = link;
-    handle.state = state;
-}
-
-// One handle, lent, names an object that stands in the current space.
-fn name_object(handle: &mut Handle, kind: u8, place: u32)
-    ensures { handle.new ≡ named handle.old kind place }
-{
-    handle.kind = kind;
-    handle.place = place;
-    handle.state = State::New;
-}
-
-// One handle, lent, becomes old if it is in use.
-fn grow_old(handle: &mut Handle)
-    ensures { handle.new ≡ age handle.old }
-{
-    if !handle.state.is_spare() {
-        handle.state = State::Old;
+    let number = number as usize;
+    if number >= handles.len() {
+        return None;
     }
-}
-
-fn age_all(handles: &mut [Handle])
-    ensures { handles.new ≡ map age handles.old }
-{
-    for i in 0..handles.len() {
-        grow_old(&mut handles[i]);
-    }
-}
-
-fn row_at(handles: &[Handle], number: usize) -> Handle
-    ensures { result ≡ slice_index_or handles.now number blank }
-{
-    if number < handles.len() {
-        handles[number]
-    } else {
-        Handle {
-            kind: 0,
-            place: 0,
-            link: 0,
-            state: State::Spare,
-        }
-    }
-}
-
-fn link_at(handles: &mut [Handle], number: u16, link: u16, state: State)
-    ensures { handles.new ≡ slice_set handles.old number (linked (slice_index_or handles.old number blank) link state) }
-{
-    if (number as usize) < handles.len() {
-        link_as(&mut handles[number as usize], link, state);
-    }
-}
-
-fn name_at(handles: &mut [Handle], number: u16, kind: u8, place: u32)
-    ensures { handles.new ≡ slice_set handles.old number (named (slice_index_or handles.old number blank) kind place) }
-{
-    if (number as usize) < handles.len() {
-        name_object(&mut handles[number as usize], kind, place);
-    }
+    Some(&mut handles[number])
 }
 
 impl Table {
@@ -97,7 +55,14 @@ impl Table {
         ensures value { result ≡ row self.now number }
         ensures past { 257 ≤ number → result ≡ blank }
     {
-        row_at(&self.handles, number)
+        self.handles.get(number).copied().unwrap_or_default()
+    }
+
+    pub(crate) fn is_spare(&self, number: usize) -> bool
+        ensures value { result ≡ is_spare (state_of self.now number) }
+        ensures past { 257 ≤ number → result ≡ true }
+    {
+        self.handle(number).state == State::Spare
     }
 
     // The handle that a reference word names: 0 for none, or one in use.
@@ -106,32 +71,38 @@ impl Table {
             (λ x. (stray self.now word ≡ false) × (x ≡ word))
             (λ e. (stray self.now word ≡ true) × (refusal e ≡ in_heap 20)) }
     {
-        if word != 0 && self.handle(word as usize).state.is_spare() {
-            return Err(refuse(Cause::StrayReference));
+        if word != 0 && self.is_spare(word as usize) {
+            return Err(Fault::nowhere(Layer::Heap, Cause::StrayReference));
         }
         Ok(word as u16)
+    }
+
+    // An old handle goes onto a chain, by its first handle and the state of those on it: the first one then.
+    fn chain_old(&mut self, number: u16, first: u16, state: State) -> u16
+        ensures table { self.new ≡ (if is_old (state_of self.old number) then with_row self.old number (linked (row self.old number) first state) self.old.spare self.old.marked else self.old) }
+        ensures first { result ≡ (if is_old (state_of self.old number) then number else first) }
+    {
+        match lent(&mut self.handles, number) {
+            Some(handle) if handle.state == State::Old => {
+                handle.link_as(first, state);
+                number
+            }
+            _ => first,
+        }
     }
 
     // An old handle goes onto the marked chain.
     pub(crate) fn mark(&mut self, number: u16)
         ensures { self.new ≡ mark self.old number }
     {
-        if self.handle(number as usize).state.is_old() {
-            let first = self.marked;
-            link_at(&mut self.handles, number, first, State::Marked);
-            self.marked = number;
-        }
+        self.marked = self.chain_old(number, self.marked, State::Marked);
     }
 
     // An old handle goes onto the spare chain.
     pub(crate) fn sweep(&mut self, number: u16)
         ensures { self.new ≡ sweep self.old number }
     {
-        if self.handle(number as usize).state.is_old() {
-            let first = self.spare;
-            link_at(&mut self.handles, number, first, State::Spare);
-            self.spare = number;
-        }
+        self.spare = self.chain_old(number, self.spare, State::Spare);
     }
 
     // The last marked handle leaves its chain and starts to move.
@@ -140,7 +111,9 @@ impl Table {
     {
         let number = self.marked;
         let next = self.handle(number as usize).link;
-        link_at(&mut self.handles, number, next, State::Moving);
+        if let Some(handle) = lent(&mut self.handles, number) {
+            handle.link_as(next, State::Moving);
+        }
         self.marked = next;
     }
 
@@ -150,7 +123,9 @@ impl Table {
     {
         let number = self.spare;
         let next = self.handle(number as usize).link;
-        name_at(&mut self.handles, number, kind, place);
+        if let Some(handle) = lent(&mut self.handles, number) {
+            handle.name_object(kind, place);
+        }
         self.spare = next;
     }
 
@@ -158,15 +133,18 @@ impl Table {
     pub(crate) fn settle(&mut self, number: u16, place: u32)
         ensures { self.new ≡ settle self.old number place }
     {
-        let kind = self.handle(number as usize).kind;
-        name_at(&mut self.handles, number, kind, place);
+        if let Some(handle) = lent(&mut self.handles, number) {
+            handle.name_object(handle.kind, place);
+        }
     }
 
     // Every handle in use becomes old, and none is marked.
     pub(crate) fn age(&mut self)
         ensures { self.new ≡ aged self.old }
     {
-        age_all(&mut self.handles);
+        for handle in self.handles.iter_mut() {
+            handle.grow_old();
+        }
         self.marked = 0;
     }
 }

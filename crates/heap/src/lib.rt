@@ -2,11 +2,7 @@
 // The memory is brought to each call that reads or writes words.
 #![tactic(auto)]
 
-ghost use Rattle.std.specs.Prelude.{◌≡◌};
-ghost use Rattle.fault.specs.Told.{number_of, refusal};
-ghost use Rattle.heap.specs.Answers.{in_heap};
-
-use fault::{Cause, Fault, Layer, Place};
+use arrayvec::ArrayVec;
 use kinds::Kind;
 
 mod calls;
@@ -16,8 +12,9 @@ mod preparing;
 mod questions;
 
 // How a handle stands with the collection.
-#[derive(Clone, Copy)]
+#[derive(Clone, Copy, PartialEq, Eq, Default, Debug)]
 enum State {
+    #[default]
     Spare,
     Old,
     Marked,
@@ -26,7 +23,7 @@ enum State {
 }
 
 // An object's kind and its place in memory; the link leads to the next handle of the chain that this one is in.
-#[derive(Clone, Copy)]
+#[derive(Clone, Copy, PartialEq, Eq, Default, Debug)]
 struct Handle {
     kind: u8,
     place: u32,
@@ -43,7 +40,7 @@ struct Table {
 }
 
 // The words of a space, the handles, and how many words and objects are declared to live at most.
-#[derive(Clone, Copy)]
+#[derive(Clone, Copy, PartialEq, Eq, Default, Debug)]
 pub struct Limits {
     pub space: u16,
     pub handles: u16,
@@ -51,17 +48,17 @@ pub struct Limits {
     pub live_objects: u16,
 }
 
-// The kinds stand at their numbers, 1 to the count.
-#[derive(Drop)]
+// The limits, and the kinds, which are numbered from 1.
+#[derive(Default, Drop)]
 struct Measures {
     limits: Limits,
-    count: u8,
-    kinds: [Kind; 33],
+    kinds: ArrayVec<Kind, 32>,
 }
 
 // Sweeping has come to a handle, clearing to a word of the other space.
-#[derive(Clone, Copy)]
+#[derive(Clone, Copy, PartialEq, Eq, Default, Debug)]
 enum Phase {
+    #[default]
     Idle,
     Tracing,
     Sweeping(u16),
@@ -70,7 +67,7 @@ enum Phase {
 
 // The current space begins at `base`: `born` words lie at its top, and `settled` words of finished copies at its bottom.
 // Above those goes the copy of the object that moves, its handle 0 for none, of which `done` words are copied.
-#[derive(Clone, Copy)]
+#[derive(Clone, Copy, PartialEq, Eq, Default, Debug)]
 struct Course {
     base: u16,
     born: u16,
@@ -80,7 +77,7 @@ struct Course {
 }
 
 // The steps of a collection, and the objects and words that it took up.
-#[derive(Clone, Copy)]
+#[derive(Clone, Copy, PartialEq, Eq, Default, Debug)]
 pub struct Report {
     pub steps: u32,
     pub objects: u16,
@@ -88,7 +85,7 @@ pub struct Report {
 }
 
 // Where the collector stands: whether it has flipped since prepare, and what the collection has taken so far.
-#[derive(Clone, Copy)]
+#[derive(Clone, Copy, PartialEq, Eq, Default, Debug)]
 struct Cycle {
     phase: Phase,
     flipped: bool,
@@ -107,7 +104,7 @@ pub struct Heap {
 }
 
 // A task's call.
-#[derive(Clone, Copy)]
+#[derive(Clone, Copy, PartialEq, Eq, Debug)]
 pub enum Call {
     New { slot: u8, kind: u8 },
     Copy { from: u8, to: u8 },
@@ -121,21 +118,10 @@ pub enum Call {
 }
 
 // What a call answers.
-#[derive(Clone, Copy)]
+#[derive(Clone, Copy, PartialEq, Eq, Debug)]
 pub enum Answer {
     Done,
     Absent,
     Number(u32),
     Truth(bool),
-}
-
-// A refusal of the heap names no place.
-fn refuse(cause: Cause) -> Fault
-    ensures { refusal result ≡ in_heap (number_of cause) }
-{
-    Fault {
-        cause,
-        layer: Layer::Heap,
-        place: Place::Nowhere,
-    }
 }

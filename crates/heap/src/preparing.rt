@@ -1,36 +1,50 @@
 // A bare heap, and how it is prepared.
-ghost use Rattle.std.specs.Prelude.{◌≡◌, ◌<◌, ◌≤◌, length};
-ghost use Rattle.std.proofs.Math.Seq.{paste};
-ghost use Rattle.heap.specs.Answers.{of_unit, tells};
-ghost use Rattle.heap.specs.Start.{limits_fit, all_fit, spare_row, spare_rows, still, bare, fresh, preparing as prepared_by};
+ghost use Rattle.std.specs.Prelude.{◌≡◌, true, false, MatchResult};
+ghost use Rattle.std.specs.List.{list_all};
+ghost use Rattle.fault.specs.Told.{refusal};
+ghost use Rattle.kinds.specs.Maps.{fits};
+ghost use Rattle.heap.specs.Answers.{of_unit, tells, in_heap};
+ghost use Rattle.heap.specs.Start.{limits_fit, measures_fit, spare_row, spare_table, bare, fresh, preparing as prepared_by};
 
-use crate::{Course, Cycle, Handle, Heap, Limits, Measures, Phase, Report, State, Table, refuse};
-use fault::{Cause, Fault};
+use crate::{Cycle, Handle, Heap, Limits, Measures, Table};
+use arrayvec::ArrayVec;
+use fault::{Cause, Fault, Layer};
 use kinds::Kind;
 use memory::{Readable, Writable, zero};
+use std::array;
 
 impl Limits {
     fn is_legal(self) -> bool
         ensures { result ≡ limits_fit self }
     {
-        self.space >= 1
-            && self.space <= 8192
-            && self.handles >= 1
-            && self.handles <= 256
+        (1..=8192).contains(&self.space)
+            && (1..=256).contains(&self.handles)
             && self.live_words <= self.space
             && self.live_objects <= self.handles
     }
 }
 
 fn all_legal(kinds: &[Kind]) -> bool
-    ensures { result ≡ all_fit kinds.now }
+    ensures { result ≡ list_all fits kinds.now }
 {
-    for i in 0..kinds.len() {
-        if !kinds[i].is_legal() {
-            return false;
+    kinds.iter().all(|kind| kind.is_legal())
+}
+
+impl Measures {
+    // Limits and kinds that are within their own limits.
+    #[tactic(auto, using(crate::proofs::Begins::fit_each))]
+    fn new(limits: Limits, kinds: &[Kind]) -> Result<Measures, Fault>
+        ensures { MatchResult result
+            (λ m. (measures_fit limits kinds.now ≡ true) × (m.limits ≡ limits) × (m.kinds.items ≡ kinds.now))
+            (λ e. (measures_fit limits kinds.now ≡ false) × (refusal e ≡ in_heap 11)) }
+    {
+        let wrong = Fault::nowhere(Layer::Heap, Cause::WrongMeasures);
+        if !limits.is_legal() || kinds.is_empty() || !all_legal(kinds) {
+            return Err(wrong);
         }
+        let kinds = ArrayVec::try_from(kinds).map_err(|_| wrong)?;
+        Ok(Measures { limits, kinds })
     }
-    true
 }
 
 // A spare handle leads to the next one, up to the last.
@@ -43,52 +57,20 @@ fn spare_handle(number: usize, last: u16) -> Handle
         0
     };
     Handle {
-        kind: 0,
-        place: 0,
         link,
-        state: State::Spare,
+        ..Handle::default()
     }
 }
 
-// The spare chain reads 1, 2, .. up to the last handle.
-fn chain_spares(handles: &mut [Handle], last: u16)
-    ensures { handles.new ≡ spare_rows (length handles.old) last }
-{
-    for i in 0..handles.len() {
-        handles[i] = spare_handle(i, last);
-    }
-}
-
-// The kinds go to the rows of their numbers.
-fn number_kinds(rows: &mut [Kind], kinds: &[Kind])
-    requires { length kinds.now < length rows.old }
-    ensures { rows.new ≡ paste rows.old 1 kinds.now (length kinds.now) }
-{
-    for i in 0..kinds.len() {
-        rows[1 + i] = kinds[i];
-    }
-}
-
-impl Cycle {
-    // No collection yet, and nothing born.
-    fn still() -> Cycle
-        ensures { result ≡ still }
+impl Table {
+    // The spare chain reads 1, 2, .. up to the last handle.
+    fn spare(last: u16) -> Table
+        ensures { result ≡ spare_table last }
     {
-        Cycle {
-            phase: Phase::Idle,
-            flipped: false,
-            course: Course {
-                base: 0,
-                born: 0,
-                settled: 0,
-                mover: 0,
-                done: 0,
-            },
-            tally: Report {
-                steps: 0,
-                objects: 0,
-                words: 0,
-            },
+        Table {
+            handles: array::from_fn(|number| spare_handle(number, last)),
+            spare: 1,
+            marked: 0,
         }
     }
 }
@@ -100,59 +82,28 @@ impl Heap {
     {
         Heap {
             prepared: false,
-            measures: Measures {
-                limits: Limits {
-                    space: 0,
-                    handles: 0,
-                    live_words: 0,
-                    live_objects: 0,
-                },
-                count: 0,
-                kinds: [Kind { size: 0, map: 0 }; 33],
-            },
+            measures: Measures::default(),
             table: Table {
-                handles: [Handle {
-                    kind: 0,
-                    place: 0,
-                    link: 0,
-                    state: State::Spare,
-                }; 257],
+                handles: [Handle::default(); 257],
                 spare: 0,
                 marked: 0,
             },
             slots: [0; 192],
-            cycle: Cycle::still(),
+            cycle: Cycle::default(),
         }
     }
 
     // A heap that begins afresh, the first space current.
-    fn fresh(limits: Limits, kinds: &[Kind]) -> Heap
-        requires { length kinds.now ≤ 32 }
-        ensures { result ≡ fresh limits kinds.now }
+    fn fresh(measures: Measures) -> Heap
+        ensures { result ≡ fresh measures.limits measures.kinds.items }
     {
-        let mut rows = [Kind { size: 0, map: 0 }; 33];
-        number_kinds(&mut rows, kinds);
-        let mut handles = [Handle {
-            kind: 0,
-            place: 0,
-            link: 0,
-            state: State::Spare,
-        }; 257];
-        chain_spares(&mut handles, limits.handles);
+        let table = Table::spare(measures.limits.handles);
         Heap {
             prepared: true,
-            measures: Measures {
-                limits,
-                count: kinds.len() as u8,
-                kinds: rows,
-            },
-            table: Table {
-                handles,
-                spare: 1,
-                marked: 0,
-            },
+            measures,
+            table,
             slots: [0; 192],
-            cycle: Cycle::still(),
+            cycle: Cycle::default(),
         }
     }
 
@@ -168,12 +119,10 @@ impl Heap {
         ensures heap { self.new ≡ (prepared_by self.old (M.Readable.words memory.old) limits kinds.now).heap }
         ensures words { M.Readable.words memory.new ≡ (prepared_by self.old (M.Readable.words memory.old) limits kinds.now).memory }
     {
-        if !limits.is_legal() || kinds.len() < 1 || kinds.len() > 32 || !all_legal(kinds) {
-            return Err(refuse(Cause::WrongMeasures));
-        }
+        let measures = Measures::new(limits, kinds)?;
         *self = Heap::bare();
         zero(memory, 2 * limits.space as usize)?;
-        *self = Heap::fresh(limits, kinds);
+        *self = Heap::fresh(measures);
         Ok(())
     }
 }

@@ -1,9 +1,10 @@
 // What a heap tells of itself.
-ghost use Rattle.std.specs.Prelude.{◌≡◌, ◌≤◌, false};
-ghost use Rattle.heap.specs.Handles.{row};
+ghost use Rattle.std.specs.Prelude.{◌≡◌, ◌≤◌, false, count_by};
+ghost use Rattle.std.specs.List.{range_with_len};
+ghost use Rattle.heap.specs.Handles.{is_spare, state_of, row};
 ghost use Rattle.heap.specs.Objects.{kind_of, loc};
 ghost use Rattle.heap.specs.Answers.{of_option};
-ghost use Rattle.heap.specs.Room.{spares_to, spare_handles, free_words, is_idle, kind_size, extent as extent_of, in_use};
+ghost use Rattle.heap.specs.Room.{spare_handles, free_words, is_idle, kind_size, extent as extent_of, in_use};
 
 use crate::{Heap, Phase, Table};
 use kinds::Kind;
@@ -11,20 +12,17 @@ use kinds::Kind;
 impl Table {
     // How many of the handles from 1 to the last are spare.
     fn spares(&self, last: u16) -> u16
-        ensures { result ≡ spares_to self.now last }
+        ensures { result ≡ count_by (λ x. is_spare (state_of self.now x)) (range_with_len 1 last) }
     {
-        let mut spares = 0;
-        for i in 0..last {
-            if self.handle(i as usize + 1).state.is_spare() {
-                spares += 1;
-            }
-        }
-        spares
+        (1..last as usize + 1)
+            .filter(|number| self.is_spare(*number))
+            .count() as u16
     }
 }
 
 impl Heap {
     // How many handles are spare.
+    #[tactic(auto, using(crate::proofs::Begins::spares_counted))]
     pub fn spare_handles(&self) -> u16
         ensures { result ≡ spare_handles self.now }
     {
@@ -44,30 +42,22 @@ impl Heap {
     pub fn is_idle(&self) -> bool
         ensures { result ≡ is_idle self.now.cycle.phase }
     {
-        match self.cycle.phase {
-            Phase::Idle => true,
-            _ => false,
-        }
+        self.cycle.phase == Phase::Idle
     }
 
     // How many words an object of a kind has; absent where there is no such kind.
     pub fn kind_size(&self, kind: u8) -> Option<u8>
         ensures { of_option result ≡ kind_size self.now kind }
     {
-        if !self.measures.has_kind(kind) {
-            return None;
-        }
-        Some(self.measures.kind(kind).size)
+        self.measures.kind(kind).map(|kind| kind.size)
     }
 
     // The words of memory that the two spaces take; absent before prepare.
     pub fn extent(&self) -> Option<usize>
         ensures { of_option result ≡ extent_of self.now }
     {
-        if !self.prepared {
-            return None;
-        }
-        Some(2 * self.measures.limits.space as usize)
+        self.prepared
+            .then_some(2 * self.measures.limits.space as usize)
     }
 
     // What the slots hold, 0 for none.
@@ -82,14 +72,15 @@ impl Heap {
         ensures value { result ≡ in_use self.now number }
         ensures past { 257 ≤ number → result ≡ false }
     {
-        !self.table.handle(number as usize).state.is_spare()
+        !self.table.is_spare(number as usize)
     }
 
     // The kind of a handle's object.
     pub fn kind_of(&self, object: u16) -> Kind
         ensures { result ≡ kind_of self.now.measures (row self.now.table object).kind }
     {
-        self.measures.kind(self.table.handle(object as usize).kind)
+        let kind = self.table.handle(object as usize).kind;
+        self.measures.kind(kind).unwrap_or_default()
     }
 
     // Where a word of a handle's object is: of the object that moves, words already copied are in the copy.

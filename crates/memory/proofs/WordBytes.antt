@@ -1,9 +1,13 @@
 -- Words in bytes: their count, reading one, and setting one.
-use Rattle.std.proofs.Common.{◌≡◌, ℕ, ◌+◌, ◌*◌, ◌/◌, ◌%◌, ◌<◌, ◌≢◌, List, length, get_or, drop, set, ap, ◌∙◌, inl, inr, arith}
+use Rattle.std.proofs.Common.{◌≡◌, ℕ, ◌+◌, ◌*◌, ◌/◌, ◌%◌, ◌<◌, ◌≢◌, List, [], ◌∷◌, refl, sym, length, get_or, drop, set, ap, ◌∙◌, inl, inr, arith}
 use native.Mathlib.Nat.{div-div-eq-div-mul}
 use Rattle.std.proofs.lemmas.List.FromFn.{length-map-range_with_len, get_or-map-range_with_len}
 use Rattle.std.proofs.lemmas.List.{same_lists, length-set, get_or-set_same, get_or-set_other, drop-set-lt}
 use Rattle.std.proofs.lemmas.Bool.{cases_eq}
+use Rattle.std.proofs.Math.Seq.{paste}
+use Rattle.std.proofs.lemmas.Slice.{put_mid-paste}
+use borrow.Rule.Slice.PartMut.{put_mid}
+use Rattle.std.proofs.lemmas.List.Edits.{paste_none, paste_more}
 use Rattle.memory.specs.Bytes.{word_at, words_of, put4}
 
 pub length_words : (bs : List ℕ) → length (words_of bs) ≡ length bs / 4
@@ -87,3 +91,37 @@ tail_put4 bs n i a b c d h =
     let y = set x (i + 1) b in
     let z = set y (i + 2) c in
     drop-set-lt n z (i + 3) d h ∙ drop-set-lt n y (i + 2) c (omega arith) ∙ drop-set-lt n x (i + 1) b (omega arith) ∙ drop-set-lt n bs i a (omega arith)
+
+-- four bytes that are copied to one place are put there one by one
+pub pasted4 : (bs : List ℕ) (i a b c d : ℕ) → i + 3 < length bs → paste bs i (a ∷ (b ∷ (c ∷ (d ∷ [])))) 4 ≡ put4 bs i a b c d
+pasted4 bs i a b c d h =
+    let s = a ∷ (b ∷ (c ∷ (d ∷ []))) in
+    let p0 : paste bs i s 0 ≡ bs = sym (paste_none bs i s) in
+    let z : i + 0 ≡ i = omega arith in
+    let p1 : set (paste bs i s 0) (i + 0) a ≡ paste bs i s 1 = paste_more bs i s 0 0 (omega arith) (omega arith) in
+    let p2 : set (paste bs i s 1) (i + 1) b ≡ paste bs i s 2 = paste_more bs i s 1 0 (omega arith) (omega arith) in
+    let p3 : set (paste bs i s 2) (i + 2) c ≡ paste bs i s 3 = paste_more bs i s 2 0 (omega arith) (omega arith) in
+    let p4 : set (paste bs i s 3) (i + 3) d ≡ paste bs i s 4 = paste_more bs i s 3 0 (omega arith) (omega arith) in
+    cc
+
+-- the same, written over the part of the bytes that holds them
+pub put_mid4 : (bs ys : List ℕ) (i k a b c d : ℕ) → ys ≡ a ∷ (b ∷ (c ∷ (d ∷ []))) → k ≡ 4 → i + 3 < length bs → put_mid i k bs ys ≡ put4 bs i a b c d
+put_mid4 bs ys i k a b c d e q h =
+    put_mid-paste i k bs ys (a ∷ (b ∷ (c ∷ (d ∷ [])))) 4 e (sym q) refl ∙ pasted4 bs i a b c d h
+
+-- the four bytes of a word
+abbrev word_bytes : ℕ → List ℕ
+word_bytes v = v / 16777216 % 256 ∷ (v / 65536 % 256 ∷ (v / 256 % 256 ∷ (v % 256 ∷ [])))
+
+pub words_put_mid : (bs ys : List ℕ) (p k v : ℕ) → ys ≡ word_bytes v → k ≡ 4 → p < length bs / 4 → v < 4294967296 → words_of (put_mid (4 * p) k bs ys) ≡ set (words_of bs) p v
+words_put_mid bs ys p k v e q h f =
+    ap words_of (put_mid4 bs ys (4 * p) k (v / 16777216 % 256) (v / 65536 % 256) (v / 256 % 256) (v % 256) e q (omega arith)) ∙ set_words bs p v h f
+
+pub tail_put_mid : (bs ys : List ℕ) (p k v : ℕ) → ys ≡ word_bytes v → k ≡ 4 → p < length bs / 4 → drop (4 * (length bs / 4)) (put_mid (4 * p) k bs ys) ≡ drop (4 * (length bs / 4)) bs
+tail_put_mid bs ys p k v e q h =
+    let a = v / 16777216 % 256 in
+    let b = v / 65536 % 256 in
+    let c = v / 256 % 256 in
+    let d = v % 256 in
+    let n = 4 * (length bs / 4) in
+    ap (drop n) (put_mid4 bs ys (4 * p) k a b c d e q (omega arith)) ∙ tail_put4 bs n (4 * p) a b c d (omega arith)

@@ -53,10 +53,7 @@ impl Readable for Words<'_> {
     }
 
     fn word(&self, place: usize) -> Result<u32, Fault> {
-        if place >= self.words.len() {
-            return Err(Fault::past_end(place));
-        }
-        Ok(self.words[place])
+        self.words.get(place).copied().ok_or(Fault::past_end(place))
     }
 }
 
@@ -70,44 +67,43 @@ impl Writable for Words<'_> {
     }
 }
 
-// How many whole words there are in these bytes.
-fn word_count(bytes: &[u8]) -> usize
-    ensures { result ≡ length (words_of bytes.now) }
-{
-    bytes.len() / 4
+impl Readable for BytesView<'_> {
+    ghost words = { λ s. words_of s.bytes.now };
+
+    #[tactic(auto, using(crate::proofs::WordBytes::length_words))]
+    fn len(&self) -> usize {
+        self.bytes.len() / 4
+    }
+
+    #[tactic(auto, using(crate::proofs::WordBytes::length_words, crate::proofs::WordBytes::get_or_words))]
+    fn word(&self, place: usize) -> Result<u32, Fault> {
+        if place >= self.len() {
+            return Err(Fault::past_end(place));
+        }
+        let bytes = self.bytes;
+        let at = 4 * place;
+        Ok(u32::from_be_bytes([bytes[at], bytes[at + 1], bytes[at + 2], bytes[at + 3]]))
+    }
 }
 
-fn word_in(bytes: &[u8], place: usize) -> Result<u32, Fault>
-    ensures { Reads (words_of bytes.now) place result }
-{
-    if place >= bytes.len() / 4 {
-        return Err(Fault::past_end(place));
+impl Bytes<'_> {
+    // The same bytes for reading only.
+    fn view(&self) -> BytesView<'_>
+        ensures { result.bytes.now ≡ self.now.bytes.now }
+    {
+        BytesView { bytes: self.bytes }
     }
-    let at = 4 * place;
-    Ok(u32::from_be_bytes([bytes[at], bytes[at + 1], bytes[at + 2], bytes[at + 3]]))
 }
 
 impl Readable for Bytes<'_> {
     ghost words = { λ s. words_of s.bytes.now };
 
     fn len(&self) -> usize {
-        word_count(self.bytes)
+        self.view().len()
     }
 
     fn word(&self, place: usize) -> Result<u32, Fault> {
-        word_in(self.bytes, place)
-    }
-}
-
-impl Readable for BytesView<'_> {
-    ghost words = { λ s. words_of s.bytes.now };
-
-    fn len(&self) -> usize {
-        word_count(self.bytes)
-    }
-
-    fn word(&self, place: usize) -> Result<u32, Fault> {
-        word_in(self.bytes, place)
+        self.view().word(place)
     }
 }
 
@@ -117,15 +113,11 @@ impl Writable for Bytes<'_> {
         ensures bytes { self.new.bytes.now ≡ stored self.old.bytes.now place value }
         ensures tail { drop (4 * (length self.old.bytes.now / 4)) self.new.bytes.now ≡ drop (4 * (length self.old.bytes.now / 4)) self.old.bytes.now }
     {
-        if place >= self.bytes.len() / 4 {
+        if place >= self.len() {
             return Err(Fault::past_end(place));
         }
         let at = 4 * place;
-        let [a, b, c, d] = value.to_be_bytes();
-        self.bytes[at] = a;
-        self.bytes[at + 1] = b;
-        self.bytes[at + 2] = c;
-        self.bytes[at + 3] = d;
+        self.bytes[at..at + 4].copy_from_slice(&value.to_be_bytes());
         Ok(())
     }
 }

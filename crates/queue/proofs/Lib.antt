@@ -1,3 +1,3 @@
-pub mod Slides
+pub mod Places
 pub mod Arranged
 pub mod Batches

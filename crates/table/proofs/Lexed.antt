@@ -1,45 +1,49 @@
 -- Classes of bytes, and the digits of a number one by one.
-use Rattle.std.proofs.Common.{◌≡◌, ℕ, ◌+◌, ◌-◌, ◌*◌, ◌^◌, ◌<◌, ◌≤◌, Bool, true, false, eqb, List, [], ◌∷◌, length, get_or, drop, refl, pow-suc, add-one, arith}
+use Rattle.std.proofs.Common.{◌≡◌, ℕ, ◌+◌, ◌-◌, ◌*◌, ◌^◌, ◌<◌, ◌≤◌, Bool, true, false, eqb, List, [], ◌∷◌, length, get_or, drop, Some, refl, ap, pow-suc, add-one, arith}
 use Rattle.std.specs.Char.{is_ascii_digit}
 use Rattle.std.specs.Str.{all_ascii_digits}
 use Rattle.std.specs.List.{prefix_len}
 use Rattle.std.proofs.lemmas.List.Sums.{prefix_len-le-length}
 use Rattle.std.proofs.lemmas.List.{drop_more, length-take-le}
 use Rattle.std.proofs.lemmas.Bool.Decides.{nat_tests}
-use Rattle.table.specs.declared.lexer.Class.TheVariants.{Digit, Comma, LineEnd, Other}
-use Rattle.table.specs.Lexing.{class_of}
+use Rattle.table.specs.declared.lexer.Class.TheVariants.{Digit, Comma, LineEnd}
+use Rattle.table.specs.Lexing.{class_of, class_ahead}
 use Rattle.table.specs.Checking.{digits_value, inside, front}
 
--- commas and line ends
-
-pub empty_class : (xs : List ℕ) → length xs ≡ 0 → Other ≡ class_of (get_or xs 0 0)
-empty_class [] h = refl
-empty_class (x ∷ xs) h = absurd (omega arith)
-
-pub comma_class : (b : ℕ) → class_of b ≡ Comma → eqb b 44 ≡ true
-comma_class b h = grind (arith, nat_tests)
+-- commas and line ends ahead
 
 class_comma : (b : ℕ) → eqb b 44 ≡ true → class_of b ≡ Comma
 class_comma b h = grind (arith, nat_tests)
 
-pub not_comma : (b : ℕ) → (class_of b ≡ Comma → ⊥) → eqb b 44 ≡ false
-not_comma b h = go (eqb b 44) refl
-  where
-    go : (t : Bool) → eqb b 44 ≡ t → eqb b 44 ≡ false
-    go true e = absurd (h (class_comma b e))
-    go false e = e
-
-pub end_class : (b : ℕ) → class_of b ≡ LineEnd → eqb b 10 ≡ true
-end_class b h = grind (arith, nat_tests)
-
 class_end : (b : ℕ) → eqb b 10 ≡ true → class_of b ≡ LineEnd
 class_end b h = grind (arith, nat_tests)
 
-pub not_end : (b : ℕ) → (class_of b ≡ LineEnd → ⊥) → eqb b 10 ≡ false
-not_end b h = go (eqb b 10) refl
+pub comma_ahead : (xs : List ℕ) → class_ahead xs ≡ Some Comma → eqb (get_or xs 0 0) 44 ≡ true
+comma_ahead [] h = absurd (cc)
+comma_ahead (x ∷ xs) h =
+    let e : class_of x ≡ Comma = cc in
+    grind (arith, nat_tests)
+
+pub no_comma : (xs : List ℕ) → (class_ahead xs ≡ Some Comma → ⊥) → eqb (get_or xs 0 0) 44 ≡ false
+no_comma [] h = refl
+no_comma (x ∷ xs) h = go (eqb x 44) refl
   where
-    go : (t : Bool) → eqb b 10 ≡ t → eqb b 10 ≡ false
-    go true e = absurd (h (class_end b e))
+    go : (t : Bool) → eqb x 44 ≡ t → eqb x 44 ≡ false
+    go true e = absurd (h (ap Some (class_comma x e)))
+    go false e = e
+
+pub end_ahead : (xs : List ℕ) → class_ahead xs ≡ Some LineEnd → eqb (get_or xs 0 0) 10 ≡ true
+end_ahead [] h = absurd (cc)
+end_ahead (x ∷ xs) h =
+    let e : class_of x ≡ LineEnd = cc in
+    grind (arith, nat_tests)
+
+pub no_end : (xs : List ℕ) → (class_ahead xs ≡ Some LineEnd → ⊥) → eqb (get_or xs 0 0) 10 ≡ false
+no_end [] h = refl
+no_end (x ∷ xs) h = go (eqb x 10) refl
+  where
+    go : (t : Bool) → eqb x 10 ≡ t → eqb x 10 ≡ false
+    go true e = absurd (h (ap Some (class_end x e)))
     go false e = e
 
 -- digits

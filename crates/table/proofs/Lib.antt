@@ -2,7 +2,6 @@ pub mod Lexed
 pub mod Steps
 pub mod Lined
 pub mod Decimal
-pub mod Fills
 pub mod Consuming
 pub mod Roads
 pub mod Spelling

@@ -1,6 +1,6 @@
 -- What a check that is done leaves to answer and to fill.
-use Rattle.std.proofs.Common.{◌≡◌, ℕ, ◌≤◌, List, length, take, drop, sym, ap, ◌∙◌, subst, arith}
-use Rattle.std.proofs.lemmas.List.{take_at, length-take-le, length-append}
+use Rattle.std.proofs.Common.{◌≡◌, ℕ, ◌≤◌, List, length, take, drop, refl, ap, ◌∙◌, subst, arith}
+use Rattle.std.proofs.lemmas.List.{take_at, length-append}
 use Rattle.fault.specs.Told.{Told, answered, refused, Refusal}
 use Rattle.table.specs.declared.rows.KindRow.{KindRow}
 use Rattle.table.specs.declared.rows.TaskRow.{TaskRow}
@@ -8,7 +8,7 @@ use Rattle.table.specs.declared.Table.{Table}
 use Rattle.table.specs.Format.{Rows, render}
 use Rattle.table.specs.Limits.{Limits}
 use Rattle.table.specs.Checking.{check}
-use Rattle.table.specs.Filling.{rows_in, summary, overlaid, filled}
+use Rattle.table.specs.Filling.{rows_in, table_of, summary, overlaid, filled}
 use Rattle.table.specs.Laws.{Exact, Loaded}
 use Rattle.table.proofs.Sound.{check_sound}
 use Rattle.table.proofs.Complete.{check_complete}
@@ -23,35 +23,30 @@ kept part q e old h = rw h
 
 -- accepted: the lists are filled
 
-pub answer_table : (q : Told Rows) (t : Table) (kinds : List KindRow) (tasks : List TaskRow) → q ≡ answered (rows_in t kinds tasks) → t.kind_count ≤ length kinds → t.task_count ≤ length tasks → answered t ≡ summary q
-answer_table q t kinds tasks h a b =
-    let k = length-take-le t.kind_count kinds a in
-    let m = length-take-le t.task_count tasks b in
-    rw (h, k, m)
+pub answer_table : (q : Told Rows) (t : Table) (rows : Rows) → q ≡ answered rows → t ≡ table_of rows → answered t ≡ summary q
+answer_table q t rows h e = rw (h, e)
 
-pub filled_from : {R : Type 0} (part : Rows → List R) (q : Told Rows) (t : Rows) (old new : List R) → q ≡ answered t → new ≡ overlaid (part t) old → new ≡ filled part q old
-filled_from part q t old new e h = rw e h
+pub filled_from : {R : Type 0} (part : Rows → List R) (q : Told Rows) (rows : Rows) (old new : List R) → q ≡ answered rows → new ≡ overlaid (part rows) old → new ≡ filled part q old
+filled_from part q rows old new e h = rw e h
 
-take_overlaid : {R : Type 0} (n : ℕ) (rs old new : List R) → n ≤ length rs → new ≡ overlaid (take n rs) old → take n new ≡ take n rs
-take_overlaid n rs old new h e = ap (take n) e ∙ take_at (take n rs) (drop (length (take n rs)) old) n (length-take-le n rs h)
+take_overlaid : {R : Type 0} (rs old : List R) → take (length rs) (overlaid rs old) ≡ rs
+take_overlaid rs old = take_at rs (drop (length rs) old) (length rs) refl
 
-length_overlaid : {R : Type 0} (n : ℕ) (rs old new : List R) → n ≤ length rs → n ≤ length old → new ≡ overlaid (take n rs) old → n ≤ length new
-length_overlaid n rs old new h k e =
-    let l = length-append (take n rs) (drop (length (take n rs)) old) in
-    omega (arith, ap length e, l, length-take-le n rs h)
+length_overlaid : {R : Type 0} (rs old : List R) → length rs ≤ length (overlaid rs old)
+length_overlaid rs old = omega (arith, length-append rs (drop (length rs) old))
 
-pub loaded_from : (text : List ℕ) (k m : ℕ) (t : Table) (ks ks0 ks1 : List KindRow) (ts ts0 ts1 : List TaskRow) → check text k m ≡ answered (rows_in t ks ts) → t.kind_count ≤ length ks → t.task_count ≤ length ts → t.kind_count ≤ length ks0 → t.task_count ≤ length ts0 → ks1 ≡ overlaid (take t.kind_count ks) ks0 → ts1 ≡ overlaid (take t.task_count ts) ts0 → Loaded text t ks1 ts1
-loaded_from text k m t ks ks0 ks1 ts ts0 ts1 h a b a0 b0 p q =
-    let w = check_sound text k m (rows_in t ks ts) h in
-    let e : rows_in t ks ts ≡ rows_in t ks1 ts1 =
-    ap (λ x. record { heap = t.heap; statics = t.statics; kinds = x; tasks = take t.task_count ts }) (sym (take_overlaid t.kind_count ks ks0 ks1 a p))
-    ∙ ap (λ x. record { heap = t.heap; statics = t.statics; kinds = take t.kind_count ks1; tasks = x }) (sym (take_overlaid t.task_count ts ts0 ts1 b q)) in
-    record {
-      kind_room = length_overlaid t.kind_count ks ks0 ks1 a a0 p;
-      task_room = length_overlaid t.task_count ts ts0 ts1 b b0 q;
+pub loaded_from : (text : List ℕ) (k m : ℕ) (rows : Rows) (t : Table) (kinds0 kinds1 : List KindRow) (tasks0 tasks1 : List TaskRow) → check text k m ≡ answered rows → t ≡ table_of rows → kinds1 ≡ overlaid rows.kinds kinds0 → tasks1 ≡ overlaid rows.tasks tasks0 → Loaded text t kinds1 tasks1
+loaded_from text k m rows t kinds0 kinds1 tasks0 tasks1 h f p q =
+    let w = check_sound text k m rows h in
+    let e : rows ≡ rows_in (table_of rows) (overlaid rows.kinds kinds0) (overlaid rows.tasks tasks0) =
+    rw (take_overlaid rows.kinds kinds0, take_overlaid rows.tasks tasks0) in
+    rw (f, p, q)
+    (record {
+      kind_room = length_overlaid rows.kinds kinds0;
+      task_room = length_overlaid rows.tasks tasks0;
       text_is = w.text_is ∙ ap render e;
       limits = subst Limits e w.limits;
-    }
+    })
 
 -- the law, both ways
 pub exact : (text : List ℕ) (k t : ℕ) → Exact text k t

@@ -1,5 +1,5 @@
 -- The road through a text, from each of its parts on.
-use Rattle.std.proofs.Common.{◌≡◌, ℕ, zero, suc, ◌+◌, ◌<◌, ◌≤◌, min, true, false, cond, not, ◌||◌, List, [], ◌∷◌, length, take, codes, sym, refl, ap, ◌∙◌, arith}
+use Rattle.std.proofs.Common.{◌≡◌, ℕ, ◌+◌, min, true, false, cond, not, ◌||◌, List, length, codes, sym, ap, ◌∙◌}
 use Rattle.fault.specs.Told.{Told, answered, refused, Refusal}
 use Rattle.table.specs.declared.rows.HeapRow.{HeapRow}
 use Rattle.table.specs.declared.rows.StaticRow.{StaticRow}
@@ -42,18 +42,10 @@ module _ (k t : ℕ) (text : List ℕ) (s0 : Spot) (e : s0 ≡ at text 1 1) wher
 
 -- the end of the lines
 
-pub none_take : {R : Type 0} (n : ℕ) (rs : List R) → 0 < n → n ≤ length rs → none (take n rs) ≡ false
-none_take zero rs h l = absurd (omega arith)
-none_take (suc n) [] h l = absurd (omega arith)
-none_take (suc n) (r ∷ rs) h l = refl
-
-pub none_none : {R : Type 0} (rs : List R) (n : ℕ) → n ≡ 0 → none (take n rs) ≡ true
-none_none rs n e = rw e
-
 pub finish_refused : (heap : HeapRow) (statics : StaticRow) (kinds : List KindRow) (tasks : List TaskRow) (s : Spot) (e : Refusal) → (none tasks || not (none s.rest)) ≡ true → e ≡ misread 2 s.line 1 → finish heap statics kinds tasks s ≡ refused e
 unfolding finish
 finish_refused heap statics kinds tasks s e h k = rw (h, k)
 
-pub finish_checked : (heap : HeapRow) (statics : StaticRow) (kinds : List KindRow) (tasks : List TaskRow) (s : Spot) (r : Told (Unit {0})) (first : ℕ) → (none tasks || not (none s.rest)) ≡ false → first ≡ 3 + length kinds → check_consumers (length tasks) 1 first tasks ≡ r → finish heap statics kinds tasks s ≡ unless r (record { heap = heap; statics = statics; kinds = kinds; tasks = tasks })
+pub finish_checked : (heap : HeapRow) (statics : StaticRow) (kinds : List KindRow) (tasks : List TaskRow) (s : Spot) (r : Told (Unit {0})) → (none tasks || not (none s.rest)) ≡ false → check_consumers (length tasks) 1 (3 + length kinds) tasks ≡ r → finish heap statics kinds tasks s ≡ unless r (record { heap = heap; statics = statics; kinds = kinds; tasks = tasks })
 unfolding finish
-finish_checked heap statics kinds tasks s r first h f k = rw (h, ← f, k)
+finish_checked heap statics kinds tasks s r h k = rw (h, k)

@@ -77,13 +77,13 @@ spelled_long (suc j) (suc k) n acc h p =
     let z = one-le-pow j 10 (omega arith) in
     rw (ne_eqb (n / 10) 0 (λ e. omega arith)) (omega arith)
 
-decimal_long : (n : ℕ) → 10 ^ 10 ≤ n → 11 ≤ length (decimal n)
+pub decimal_long : (k n : ℕ) → k < 64 → 10 ^ k ≤ n → k + 1 ≤ length (decimal n)
 unfolding digits
-decimal_long n h = omega (arith, spelled_long 10 64 n [] (omega arith) h)
+decimal_long k n s h = omega (arith, spelled_long k 64 n [] s h)
 
 pub not_number : (n : ℕ) → 10 ^ 10 ≤ n → is_number (decimal n) ≡ false
 not_number n h =
-    let l = decimal_long n h in
+    let l = decimal_long 10 n (omega arith) h in
     and_right (all_ascii_digits (decimal n)) (shaped (decimal n)) (grind (arith, nat_tests))
 
 -- numbers of at most ten digits

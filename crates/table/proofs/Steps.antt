@@ -5,7 +5,7 @@ use Rattle.std.proofs.lemmas.Bool.{eqb-true, ne_eqb}
 use Rattle.fault.specs.Told.{Told, answered, refused, Refusal}
 use Rattle.std.proofs.lemmas.List.Sums.{prefix_len-le-length}
 use Rattle.table.proofs.Lexed.{length_front}
-use Rattle.table.specs.Checking.{Spot, at, misread, front, after, field_value, placed, number, leads, past_word, line_end, inside, none, is_whole}
+use Rattle.table.specs.Checking.{Spot, at, misread, front, after, field_value, placed, number, leads, past_word, line_end, inside, none}
 
 pub some_byte : (xs : List ℕ) (b : ℕ) → 0 < b → eqb (get_or xs 0 0) b ≡ true → 1 ≤ length xs
 some_byte [] b h e = absurd (omega (arith, eqb-true 0 b e))
@@ -53,12 +53,8 @@ not_leads w s h = go (leads w s) refl
     go true e = absurd (h ((bytes_eq-Decides (front s.rest) w).0 e))
     go false e = e
 
--- no text is whole without a byte
+-- a list is empty if it has no length
 
-pub empty_not : (xs : List ℕ) → length xs ≡ 0 → false ≡ is_whole xs
-empty_not [] h = refl
-empty_not (x ∷ xs) h = absurd (omega arith)
-
-pub none_length : (xs : List ℕ) (b : Bool) → b ≡ eqb (length xs) 0 → b ≡ none xs
+pub none_length : {A : Type 0} (xs : List A) (b : Bool) → b ≡ eqb (length xs) 0 → b ≡ none xs
 none_length [] b h = h
 none_length (x ∷ xs) b h = h ∙ ne_eqb (length (x ∷ xs)) 0 (λ e. omega arith)

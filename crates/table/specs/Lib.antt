@@ -3,6 +3,5 @@ pub mod Limits
 pub mod Checking
 pub mod Laws
 pub mod Lexing
-pub mod Places
 pub mod Filling
 pub mod Drafting

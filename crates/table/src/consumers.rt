@@ -3,22 +3,15 @@ ghost use Rattle.std.specs.Prelude.{◌≡◌, ℕ, ◌+◌, ◌≤◌, length, 
 ghost use Rattle.fault.specs.Told.{told};
 ghost use Rattle.table.specs.Checking.{past as past_of, consumer_column, check_consumers};
 
-use crate::misread::misread;
 use crate::rows::TaskRow;
-use fault::{Cause, Fault};
+use fault::{Cause, Fault, Layer};
 
 // How many digits a number has.
 fn digits(n: u32) -> u32
     ensures value { result ≡ length (decimal n) }
     ensures few { result ≤ 10 }
 {
-    let mut rest = n;
-    let mut count = 1;
-    while rest >= 10 {
-        rest /= 10;
-        count += 1;
-    }
-    count
+    n.checked_ilog10().unwrap_or(0) + 1
 }
 
 // The column after a comma and a number.
@@ -30,16 +23,16 @@ fn past(column: u32, n: u32) -> u32
     column + 1 + digits(n)
 }
 
-// Where the consumer of a task begins in its line.
+// Where the consumer of a task begins in its line: past the first word, the numbers before it, and a comma.
 fn column_of(task: &TaskRow) -> u32
     ensures { result ≡ consumer_column task.now }
 {
-    let column = past(5, task.period);
-    let column = past(column, task.deadline);
-    let column = past(column, task.units);
-    let column = past(column, task.words);
-    let column = past(column, task.objects);
-    past(column, task.life) + 1
+    let numbers = task.numbers();
+    let mut column = 5;
+    for n in &numbers[..6] {
+        column = past(column, *n);
+    }
+    column + 1
 }
 
 // The first task whose consumer is itself or none of them is refused. Their lines begin at `first`.
@@ -47,10 +40,11 @@ pub(crate) fn check(tasks: &[TaskRow], first: u32) -> Result<(), Fault>
     requires { (length tasks.now ≤ 16) × (first ≤ 35) }
     ensures { told result ≡ check_consumers (length tasks.now) 1 first tasks.now }
 {
-    for i in 0..tasks.len() {
-        let consumer = tasks[i].consumer as usize;
+    for (i, task) in tasks.iter().enumerate() {
+        let consumer = task.consumer as usize;
         if consumer > tasks.len() || consumer == i + 1 {
-            return Err(misread(Cause::OutsideLimits, first + i as u32, column_of(&tasks[i])));
+            let line = first + i as u32;
+            return Err(Fault::in_line(Layer::Text, Cause::OutsideLimits, line, column_of(task)));
         }
     }
     Ok(())

@@ -3,7 +3,7 @@ ghost use Rattle.std.specs.Prelude.{◌≡◌};
 ghost use Rattle.table.specs.Checking.{inside};
 ghost use Rattle.table.specs.Lexing.{class_of};
 
-#[derive(Clone, Copy)]
+#[derive(Clone, Copy, PartialEq, Eq)]
 pub(crate) enum Class {
     Letter,
     Digit(u8),
@@ -12,15 +12,17 @@ pub(crate) enum Class {
     Other,
 }
 
-pub(crate) fn classify(byte: u8) -> Class
-    ensures { result ≡ class_of byte }
-{
-    match byte as char {
-        'a'..='z' => Class::Letter,
-        '0'..='9' => Class::Digit(byte - b'0'),
-        ',' => Class::Comma,
-        '\n' => Class::LineEnd,
-        _ => Class::Other,
+impl From<u8> for Class {
+    ghost from_gives = { λ byte class. class ≡ class_of byte };
+
+    fn from(byte: u8) -> Class {
+        match byte as char {
+            'a'..='z' => Class::Letter,
+            '0'..='9' => Class::Digit(byte - b'0'),
+            ',' => Class::Comma,
+            '\n' => Class::LineEnd,
+            _ => Class::Other,
+        }
     }
 }
 
@@ -28,8 +30,5 @@ pub(crate) fn classify(byte: u8) -> Class
 pub(crate) fn is_inside(byte: u8) -> bool
     ensures { result ≡ inside byte }
 {
-    match classify(byte) {
-        Class::Comma | Class::LineEnd => false,
-        _ => true,
-    }
+    !matches!(Class::from(byte), Class::Comma | Class::LineEnd)
 }

@@ -1,22 +1,21 @@
 // Tables of tasks and kinds as text: the rows, and the reader.
 #![tactic(auto)]
 
-ghost use Rattle.std.specs.Prelude.{◌≡◌, ℕ, ◌≤◌, length, take, IfOk};
+ghost use Rattle.std.specs.Prelude.{◌≡◌, ℕ, ◌≤◌, length, IfOk};
 ghost use Rattle.fault.specs.Told.{told};
 ghost use Rattle.table.specs.Checking.{is_whole, check};
-ghost use Rattle.table.specs.Filling.{summary, overlaid, filled};
+ghost use Rattle.table.specs.Filling.{summary, filled};
 ghost use Rattle.table.specs.Laws.{Loaded, Exact};
 
 mod consumers;
 mod draft;
 mod field;
 mod lexer;
-mod misread;
 mod reader;
 pub mod rows;
 
-use draft::lines;
-use fault::{Cause, Fault, Layer, Place};
+use draft::Draft;
+use fault::{Cause, Fault, Layer};
 use rows::{HeapRow, KindRow, MAX_TEXT, StaticRow, TaskRow};
 
 // A table, but for the rows of its kinds and tasks, which stand at the front of the caller's lists.
@@ -32,20 +31,7 @@ pub struct Table {
 fn whole(text: &[u8]) -> bool
     ensures { result ≡ is_whole text.now }
 {
-    if text.is_empty() {
-        return false;
-    }
-    text.len() <= MAX_TEXT && text[text.len() - 1] == b'\n'
-}
-
-// The first rows of a list become those of another.
-fn fill<T: Copy>(to: &mut [T], from: &[T], count: usize)
-    requires { (count ≤ length to.old) × (count ≤ length from.now) }
-    ensures { to.new ≡ overlaid (take count from.now) to.old }
-{
-    for i in 0..count {
-        to[i] = from[i];
-    }
+    text.len() <= MAX_TEXT && text.ends_with(b"\n")
 }
 
 // Reads a table. Its kinds and tasks go to the front of the two lists once the whole text is accepted; a text that
@@ -58,14 +44,10 @@ pub fn read(text: &[u8], kinds: &mut [KindRow], tasks: &mut [TaskRow]) -> Result
     ensures exact { Exact text.now (length kinds.old) (length tasks.old) }
 {
     if !whole(text) {
-        return Err(Fault {
-            cause: Cause::WrongSize,
-            layer: Layer::Text,
-            place: Place::Nowhere,
-        });
+        return Err(Fault::nowhere(Layer::Text, Cause::WrongSize));
     }
-    let draft = lines(text, kinds.len(), tasks.len())?;
-    fill(kinds, &draft.kinds, draft.table.kind_count);
-    fill(tasks, &draft.tasks, draft.table.task_count);
-    Ok(draft.table)
+    let draft = Draft::read(text, kinds.len(), tasks.len())?;
+    kinds[..draft.kinds.len()].copy_from_slice(&draft.kinds);
+    tasks[..draft.tasks.len()].copy_from_slice(&draft.tasks);
+    Ok(draft.table())
 }

@@ -3,6 +3,7 @@
 
 #[cfg(test)]
 mod tests {
+    use arrayvec::{ArrayVec, CapacityError};
     use fault::{Fault, Layer};
     use std::process::Abort;
     use std::test::Fail;
@@ -123,14 +124,11 @@ mod tests {
         handles: 40,
     };
 
-    const NO_SPACE: HeapRow = HeapRow {
-        space: 0,
-        handles: 40,
-    };
+    const NO_SPACE: HeapRow = HeapRow { space: 0, ..HEAP };
 
     const VAST_SPACE: HeapRow = HeapRow {
-        space: 4294967295,
-        handles: 40,
+        space: u32::MAX,
+        ..HEAP
     };
 
     const MANY_HANDLES: HeapRow = HeapRow {
@@ -145,7 +143,7 @@ mod tests {
 
     const KIND: KindRow = KindRow { size: 2, map: 2 };
 
-    const WIDE_MAP: KindRow = KindRow { size: 2, map: 4 };
+    const WIDE_MAP: KindRow = KindRow { map: 4, ..KIND };
 
     const TASK: TaskRow = TaskRow {
         period: 50,
@@ -158,43 +156,20 @@ mod tests {
     };
 
     const LONG_PERIOD: TaskRow = TaskRow {
-        period: 4294967295,
-        deadline: 50,
-        units: 5,
-        words: 2,
-        objects: 1,
-        life: 1,
-        consumer: 0,
+        period: u32::MAX,
+        ..TASK
     };
 
     const LATE: TaskRow = TaskRow {
-        period: 50,
         deadline: 51,
-        units: 5,
-        words: 2,
-        objects: 1,
-        life: 1,
-        consumer: 0,
+        ..TASK
     };
+
+    const NO_LIFE: TaskRow = TaskRow { life: 0, ..TASK };
 
     const FEEDS_TWO: TaskRow = TaskRow {
-        period: 50,
-        deadline: 50,
-        units: 5,
-        words: 2,
-        objects: 1,
-        life: 0,
         consumer: 2,
-    };
-
-    const NO_LIFE: TaskRow = TaskRow {
-        period: 50,
-        deadline: 50,
-        units: 5,
-        words: 2,
-        objects: 1,
-        life: 0,
-        consumer: 0,
+        ..NO_LIFE
     };
 
     const STRAY_KIND: KindRow = KindRow { size: 77, map: 78 };
@@ -209,42 +184,177 @@ mod tests {
         consumer: 77,
     };
 
-    // A heap; a kind and how many of it; a task and how many of it; the buffer's bytes; number, line and column.
-    struct Rows(
-        HeapRow,
-        KindRow,
-        usize,
-        TaskRow,
-        usize,
-        usize,
-        u8,
-        usize,
-        u32,
-    );
+    // Rows for the writer: a heap, so many of a kind and of a task, and the room in bytes; and their refusal.
+    struct Rows {
+        heap: HeapRow,
+        kind: KindRow,
+        kinds: usize,
+        task: TaskRow,
+        tasks: usize,
+        room: usize,
+        number: u8,
+        line: usize,
+        column: u32,
+    }
+
+    // Rows that are written, with room to spare.
+    const GOOD_ROWS: Rows = Rows {
+        heap: HEAP,
+        kind: KIND,
+        kinds: 1,
+        task: TASK,
+        tasks: 1,
+        room: 256,
+        number: 0,
+        line: 0,
+        column: 0,
+    };
 
     static UNWRITTEN: [Rows; 17] = [
         // limits
-        Rows(NO_SPACE, KIND, 1, TASK, 1, 256, 4, 1, 6),
-        Rows(VAST_SPACE, KIND, 1, TASK, 1, 256, 4, 1, 6),
-        Rows(MANY_HANDLES, KIND, 1, TASK, 1, 256, 4, 1, 11),
-        Rows(HEAP, WIDE_MAP, 1, TASK, 1, 256, 4, 3, 8),
-        Rows(HEAP, KIND, 1, LONG_PERIOD, 1, 256, 4, 4, 6),
-        Rows(HEAP, KIND, 2, LATE, 1, 256, 4, 5, 9),
-        Rows(HEAP, KIND, 3, NO_LIFE, 1, 256, 4, 6, 20),
+        Rows {
+            heap: NO_SPACE,
+            number: 4,
+            line: 1,
+            column: 6,
+            ..GOOD_ROWS
+        },
+        Rows {
+            heap: VAST_SPACE,
+            number: 4,
+            line: 1,
+            column: 6,
+            ..GOOD_ROWS
+        },
+        Rows {
+            heap: MANY_HANDLES,
+            number: 4,
+            line: 1,
+            column: 11,
+            ..GOOD_ROWS
+        },
+        Rows {
+            kind: WIDE_MAP,
+            number: 4,
+            line: 3,
+            column: 8,
+            ..GOOD_ROWS
+        },
+        Rows {
+            task: LONG_PERIOD,
+            number: 4,
+            line: 4,
+            column: 6,
+            ..GOOD_ROWS
+        },
+        Rows {
+            kinds: 2,
+            task: LATE,
+            number: 4,
+            line: 5,
+            column: 9,
+            ..GOOD_ROWS
+        },
+        Rows {
+            kinds: 3,
+            task: NO_LIFE,
+            number: 4,
+            line: 6,
+            column: 20,
+            ..GOOD_ROWS
+        },
         // consumers: none of one task; the second of three feeds itself
-        Rows(HEAP, KIND, 1, FEEDS_TWO, 1, 256, 4, 4, 20),
-        Rows(HEAP, KIND, 1, FEEDS_TWO, 3, 256, 4, 5, 20),
+        Rows {
+            task: FEEDS_TWO,
+            number: 4,
+            line: 4,
+            column: 20,
+            ..GOOD_ROWS
+        },
+        Rows {
+            task: FEEDS_TWO,
+            tasks: 3,
+            number: 4,
+            line: 5,
+            column: 20,
+            ..GOOD_ROWS
+        },
         // counts
-        Rows(HEAP, KIND, 0, TASK, 1, 256, 2, 3, 1),
-        Rows(HEAP, KIND, 33, TASK, 1, 256, 2, 35, 1),
-        Rows(HEAP, KIND, 64, LONG_PERIOD, 0, 0, 2, 35, 1),
-        Rows(HEAP, KIND, 2, TASK, 0, 256, 2, 5, 1),
-        Rows(HEAP, KIND, 1, TASK, 17, 256, 2, 20, 1),
+        Rows {
+            kinds: 0,
+            number: 2,
+            line: 3,
+            column: 1,
+            ..GOOD_ROWS
+        },
+        Rows {
+            kinds: 33,
+            number: 2,
+            line: 35,
+            column: 1,
+            ..GOOD_ROWS
+        },
+        Rows {
+            kinds: 64,
+            task: LONG_PERIOD,
+            tasks: 0,
+            room: 0,
+            number: 2,
+            line: 35,
+            column: 1,
+            ..GOOD_ROWS
+        },
+        Rows {
+            kinds: 2,
+            tasks: 0,
+            number: 2,
+            line: 5,
+            column: 1,
+            ..GOOD_ROWS
+        },
+        Rows {
+            tasks: 17,
+            number: 2,
+            line: 20,
+            column: 1,
+            ..GOOD_ROWS
+        },
         // room, which comes last
-        Rows(HEAP, KIND, 1, TASK, 1, 51, 6, 0, 0),
-        Rows(HEAP, KIND, 1, TASK, 1, 0, 6, 0, 0),
-        Rows(HEAP, KIND, 1, LATE, 1, 0, 4, 4, 9),
+        Rows {
+            room: 51,
+            number: 6,
+            ..GOOD_ROWS
+        },
+        Rows {
+            room: 0,
+            number: 6,
+            ..GOOD_ROWS
+        },
+        Rows {
+            task: LATE,
+            room: 0,
+            number: 4,
+            line: 4,
+            column: 9,
+            ..GOOD_ROWS
+        },
     ];
+
+    static GOOD_LINES: [&[u8]; 4] = [
+        b"heap,64,40\n",
+        b"static,4,2\n",
+        b"kind,2,2\n",
+        b"task,50,50,5,2,1,1,0\n",
+    ];
+
+    // A text of so many of the good lines.
+    fn good_lines<const N: usize>(count: usize) -> Result<ArrayVec<u8, N>, CapacityError> {
+        let mut text = ArrayVec::new();
+        for line in GOOD_LINES.iter().take(count) {
+            text.try_extend_from_slice(line)?;
+        }
+        Ok(text)
+    }
 
     fn tells(fault: Fault, number: u8, line: usize, column: u32) -> bool {
         fault.number() == number
@@ -253,72 +363,48 @@ mod tests {
             && fault.layer == Layer::Text
     }
 
-    // Puts bytes into a buffer from a place on, as far as there is room; answers the place after them.
-    fn append(buffer: &mut [u8], at: usize, bytes: &[u8]) -> usize {
-        let mut next = at;
-        for i in 0..bytes.len() {
-            if next < buffer.len() {
-                buffer[next] = bytes[i];
-                next += 1;
-            }
-        }
-        next
-    }
-
-    // So many of the good lines.
-    fn good_lines(count: usize) -> &'static [u8] {
-        match count {
-            0 => b"",
-            1 => b"heap,64,40\n",
-            2 => b"heap,64,40\nstatic,4,2\n",
-            3 => b"heap,64,40\nstatic,4,2\nkind,2,2\n",
-            _ => b"heap,64,40\nstatic,4,2\nkind,2,2\ntask,50,50,5,2,1,1,0\n",
-        }
-    }
-
     // A text is refused so, and the lists stay as they were.
     fn refused(text: &[u8], number: u8, line: usize, column: u32) -> bool {
         let mut kinds = [STRAY_KIND; MAX_KINDS];
         let mut tasks = [STRAY_TASK; MAX_TASKS];
-        match table::read(text, &mut kinds, &mut tasks) {
-            Ok(_) => false,
-            Err(fault) => tells(fault, number, line, column)
-                && kinds[0] == STRAY_KIND
-                && tasks[0] == STRAY_TASK,
-        }
-    }
-
-    fn wrong(rt: &impl Abort, i: usize, case: &Case) {
-        let mut text = [0u8; 256];
-        let n = append(&mut text, 0, good_lines(case.0));
-        let n = append(&mut text, n, case.1);
-        assert!(rt; n <= 256, "case {i}");
-        assert!(rt; refused(&text[0..n], case.2, case.3, case.4), "case {i}");
+        table::read(text, &mut kinds, &mut tasks).is_err_and(|fault| tells(
+            fault, number, line, column,
+        )) && kinds[0] == STRAY_KIND
+            && tasks[0] == STRAY_TASK
     }
 
     #[test]
-    fn wrong_texts(rt: HostRuntime) {
-        for i in 0..WRONG.len() {
-            wrong(&rt, i, &WRONG[i]);
+    fn wrong_texts(rt: HostRuntime) -> Result<(), Fail> {
+        for (i, &Case(good, end, number, line, column)) in WRONG.iter().enumerate() {
+            let mut text: ArrayVec<u8, 256> = good_lines(good)?;
+            text.try_extend_from_slice(end)?;
+            assert!(rt; refused(&text, number, line, column), "case {i}");
         }
+        Ok(())
     }
 
     // Rows are refused so, and the buffer stays as it was.
-    fn unwritten(rt: &impl Abort, i: usize, case: &Rows) {
-        let kinds = [case.1; 64];
-        let tasks = [case.3; 32];
+    fn unwritten(rt: &impl Abort, i: usize, rows: &Rows) {
+        let kinds = [rows.kind; 64];
+        let tasks = [rows.task; 32];
         let mut buffer = [7u8; 256];
-        assert!(rt; case.2 <= 64 && case.4 <= 32 && case.5 <= 256, "case {i}");
+        assert!(rt;
+            rows.kinds <= 64 && rows.tasks <= 32 && rows.room <= 256,
+            "case {i}"
+        );
         match table_writer::write(
-            case.0,
+            rows.heap,
             STATICS,
-            &kinds[0..case.2],
-            &tasks[0..case.4],
-            &mut buffer[0..case.5],
+            &kinds[..rows.kinds],
+            &tasks[..rows.tasks],
+            &mut buffer[..rows.room],
         ) {
             Ok(_) => assert!(rt; false, "case {i} is written"),
             Err(fault) => {
-                assert!(rt; tells(fault, case.6, case.7, case.8), "case {i}");
+                assert!(rt;
+                    tells(fault, rows.number, rows.line, rows.column),
+                    "case {i}"
+                );
                 assert!(rt; buffer[0] == 7, "case {i}");
             }
         }
@@ -326,8 +412,8 @@ mod tests {
 
     #[test]
     fn wrong_rows(rt: HostRuntime) {
-        for i in 0..UNWRITTEN.len() {
-            unwritten(&rt, i, &UNWRITTEN[i]);
+        for (i, rows) in UNWRITTEN.iter().enumerate() {
+            unwritten(&rt, i, rows);
         }
     }
 
@@ -343,53 +429,41 @@ mod tests {
         let n = table_writer::write(
             table.heap,
             table.statics,
-            &kinds[0..table.kind_count],
-            &tasks[0..table.task_count],
+            &kinds[..table.kind_count],
+            &tasks[..table.task_count],
             &mut buffer,
         )?;
         Ok(n == text.len() && n < 2048 && buffer.starts_with(text) && buffer[n] == 7)
     }
 
-    fn accepted(rt: &impl Abort, i: usize, case: &Good) {
-        let mut text = [0u8; 256];
-        let n = append(&mut text, 0, good_lines(case.0));
-        let n = append(&mut text, n, case.1);
-        assert!(rt; n <= 256, "case {i}");
-        assert!(rt; copied(&text[0..n]) == Ok(true), "case {i}");
-    }
-
     #[test]
-    fn good_texts(rt: HostRuntime) {
-        for i in 0..GOOD.len() {
-            accepted(&rt, i, &GOOD[i]);
+    fn good_texts(rt: HostRuntime) -> Result<(), Fail> {
+        for (i, &Good(good, end)) in GOOD.iter().enumerate() {
+            let mut text: ArrayVec<u8, 256> = good_lines(good)?;
+            text.try_extend_from_slice(end)?;
+            assert!(rt; copied(&text)?, "case {i}");
         }
+        Ok(())
     }
 
     // A table of so many kinds and tasks.
-    fn counted(kinds: usize, tasks: usize, text: &mut [u8]) -> usize {
-        let mut n = append(text, 0, good_lines(2));
+    fn counted(kinds: usize, tasks: usize) -> Result<ArrayVec<u8, 1024>, CapacityError> {
+        let mut text = good_lines(2)?;
         for _ in 0..kinds {
-            n = append(text, n, b"kind,1,0\n");
+            text.try_extend_from_slice(b"kind,1,0\n")?;
         }
         for _ in 0..tasks {
-            n = append(text, n, b"task,50,50,5,2,1,1,0\n");
+            text.try_extend_from_slice(b"task,50,50,5,2,1,1,0\n")?;
         }
-        n
+        Ok(text)
     }
 
     // The largest table is accepted; with a kind or a task more it is refused at that line.
     #[test]
     fn counts(rt: HostRuntime) -> Result<(), Fail> {
-        let mut text = [0u8; 1024];
-        let n = counted(32, 16, &mut text);
-        assert!(rt; n <= 1024);
-        assert!(rt; copied(&text[0..n])?);
-        let n = counted(33, 16, &mut text);
-        assert!(rt; n <= 1024);
-        assert!(rt; refused(&text[0..n], 2, 35, 1));
-        let n = counted(32, 17, &mut text);
-        assert!(rt; n <= 1024);
-        assert!(rt; refused(&text[0..n], 2, 51, 1));
+        assert!(rt; copied(&counted(32, 16)?)?);
+        assert!(rt; refused(&counted(33, 16)?, 2, 35, 1));
+        assert!(rt; refused(&counted(32, 17)?, 2, 51, 1));
         Ok(())
     }
 
@@ -397,46 +471,51 @@ mod tests {
     fn rows_in_their_places(rt: HostRuntime) -> Result<(), Fail> {
         let mut kinds = [STRAY_KIND; 2];
         let mut tasks = [STRAY_TASK; 2];
-        let table = table::read(good_lines(4), &mut kinds, &mut tasks)?;
+        let text: ArrayVec<u8, 256> = good_lines(4)?;
+        let table = table::read(&text, &mut kinds, &mut tasks)?;
         assert!(rt; table.heap == HEAP && table.statics == STATICS);
-        assert!(rt; table.kind_count == 1 && kinds[0] == KIND && kinds[1] == STRAY_KIND);
-        assert!(rt; table.task_count == 1 && tasks[0] == TASK && tasks[1] == STRAY_TASK);
+        assert!(rt; table.kind_count == 1 && kinds == [KIND, STRAY_KIND]);
+        assert!(rt; table.task_count == 1 && tasks == [TASK, STRAY_TASK]);
         Ok(())
     }
 
-    // With room for so many kinds and tasks, a table of two each is refused at a line, or at 0 accepted.
-    fn full(rt: &impl Abort, kind_room: usize, task_room: usize, line: usize) {
+    // With room for so many kinds and tasks, a table of two each is refused at a line, or accepted.
+    fn full(
+        rt: &impl Abort,
+        kind_room: usize,
+        task_room: usize,
+        line: Option<usize>,
+    ) -> Result<(), Fail> {
         let mut kinds = [NO_KIND; 2];
         let mut tasks = [NO_TASK; 2];
         assert!(rt; kind_room <= 2 && task_room <= 2);
-        let mut text = [0u8; 256];
-        let n = counted(2, 2, &mut text);
-        assert!(rt; n <= 256);
-        match table::read(
-            &text[0..n],
-            &mut kinds[0..kind_room],
-            &mut tasks[0..task_room],
-        ) {
-            Ok(_) => assert!(rt; line == 0),
-            Err(fault) => assert!(rt; tells(fault, 2, line, 1)),
+        let read = table::read(
+            &counted(2, 2)?,
+            &mut kinds[..kind_room],
+            &mut tasks[..task_room],
+        );
+        match line {
+            None => assert!(rt; read.is_ok()),
+            Some(line) => assert!(rt; read.is_err_and(|fault| tells(fault, 2, line, 1))),
         }
+        Ok(())
     }
 
     #[test]
-    fn full_lists(rt: HostRuntime) {
-        full(&rt, 2, 2, 0);
-        full(&rt, 0, 2, 3);
-        full(&rt, 1, 2, 4);
-        full(&rt, 2, 0, 5);
-        full(&rt, 2, 1, 6);
+    fn full_lists(rt: HostRuntime) -> Result<(), Fail> {
+        full(&rt, 2, 2, None)?;
+        full(&rt, 0, 2, Some(3))?;
+        full(&rt, 1, 2, Some(4))?;
+        full(&rt, 2, 0, Some(5))?;
+        full(&rt, 2, 1, Some(6))
     }
 
     // Nothing but line ends, up to one byte more than a text may have.
     #[test]
     fn sizes(rt: HostRuntime) {
         let text = [b'\n'; 8193];
-        assert!(rt; refused(&text[0..1], 2, 1, 1));
-        assert!(rt; refused(&text[0..8192], 2, 1, 1));
+        assert!(rt; refused(&text[..1], 2, 1, 1));
+        assert!(rt; refused(&text[..8192], 2, 1, 1));
         assert!(rt; refused(&text, 6, 0, 0));
     }
 }

@@ -1,24 +1,12 @@
 -- Text that grows at its end.
-use Rattle.std.proofs.Common.{◌≡◌, ℕ, ◌+◌, ◌/◌, ◌%◌, ◌^◌, ◌<◌, ◌≤◌, List, [], ◌∷◌, ◌++◌, length, get_or, take, codes, decimal, sym, refl, ap, ◌∙◌, arith}
+use Rattle.std.proofs.Common.{◌≡◌, ℕ, ◌+◌, ◌<◌, ◌≤◌, List, [], ◌∷◌, ◌++◌, length, get_or, take, codes, decimal, sym, refl, ap, ◌∙◌}
 use Rattle.std.specs.List.{flat_map}
 use Rattle.std.proofs.lemmas.List.{append_assoc, append-nil, flat_map_more, take_more, take_all}
-use Rattle.std.proofs.lemmas.Fmt.{decimal_step}
 use Rattle.table.specs.Format.{Rows, heap_numbers, static_numbers, kind_numbers, task_numbers, field, fields, line, lines, render}
-use Rattle.table_writer.specs.Pages.{comma}
 
--- one more of a list that is put down one by one
-pub push_more : (t t1 t2 xs : List ℕ) (i : ℕ) → i < length xs → t1 ≡ t ++ take i xs → t2 ≡ t1 ++ (get_or xs i 0 ∷ []) → t2 ≡ t ++ take (i + 1) xs
-push_more t t1 t2 xs i h e f =
-    f ∙ ap (λ x. x ++ (get_or xs i 0 ∷ [])) e ∙ append_assoc t (take i xs) (get_or xs i 0 ∷ []) ∙ ap (λ x. t ++ x) (sym (take_more xs i 0 h))
-
-pub push_all : (t t1 xs : List ℕ) (i : ℕ) → length xs ≤ i → t1 ≡ t ++ take i xs → t1 ≡ t ++ xs
-push_all t t1 xs i h e = e ∙ ap (λ x. t ++ x) (take_all i xs h)
-
--- the last digit after the others
-pub push_digit : (t t1 t2 : List ℕ) (n : ℕ) → 10 ≤ n → n < 2 ^ 32 → t1 ≡ t ++ decimal (n / 10) → t2 ≡ t1 ++ ((48 + n % 10) ∷ []) → t2 ≡ t ++ decimal n
-push_digit t t1 t2 n h s e f =
-    f ∙ ap (λ x. x ++ ((48 + n % 10) ∷ [])) e ∙ append_assoc t (decimal (n / 10)) ((48 + n % 10) ∷ [])
-    ∙ ap (λ x. t ++ x) (sym (decimal_step n h (omega arith)))
+-- a comma and a number
+abbrev pub comma : ℕ → List ℕ
+comma n = 44 ∷ decimal n
 
 -- a comma and digits
 pub push_comma : (t t1 t2 : List ℕ) (n : ℕ) → t1 ≡ t ++ (44 ∷ []) → t2 ≡ t1 ++ decimal n → t2 ≡ t ++ comma n

@@ -1,46 +1,31 @@
 -- What the writer answers and leaves, from what the reader says of the text that is drawn.
-use Rattle.std.proofs.Common.{◌≡◌, ℕ, ◌≤◌, leb, List, length, take, drop, sym, refl, ap, ◌∙◌, arith}
+use Rattle.std.proofs.Common.{◌≡◌, ℕ, ◌<◌, ◌≤◌, leb, List, ◌++◌, length, take, sym, refl, ap, ◌∙◌, arith}
 use Rattle.std.proofs.lemmas.List.{take_at}
-use Rattle.std.proofs.lemmas.Bool.{le-leb, leb-true}
-use Rattle.fault.specs.Told.{Told, answered, refused}
+use Rattle.std.proofs.lemmas.Bool.{le-leb, lt-leb, cond-true, cond-false}
+use Rattle.fault.specs.Told.{Told, answered, refused, Refusal}
 use Rattle.table.specs.declared.Table.{Table}
 use Rattle.table.specs.Format.{Rows, render}
-use Rattle.table.specs.Limits.{Limits}
-use Rattle.table.specs.Checking.{check_lines, check}
-use Rattle.table.specs.Filling.{summary, overlaid}
+use Rattle.table.specs.Checking.{refuse, check_lines, check}
+use Rattle.table.specs.Filling.{summary}
 use Rattle.table.specs.Laws.{Accepted}
-use Rattle.table.proofs.Sound.{clash, answer_same, cond_ok, check_sound}
+use Rattle.table.proofs.Sound.{clash, check_sound}
 use Rattle.table.proofs.Fits.{fits_good}
 use Rattle.table.proofs.Back.{lines_render}
 use Rattle.table.proofs.Complete.{check_complete}
-use Rattle.table_writer.specs.Writing.{answer_to, written, Written}
+use Rattle.table_writer.specs.Writing.{answer_to, written, Taken, Written}
 use Rattle.table_writer.proofs.Clips.{clip, clip_few, clip_checked, Answered, lines_answered}
 
--- an answer to a check that accepted, and to one that did not
-
+-- an answer tells no more of a table than that it was accepted
 same_answer : (q : Told Rows) (bytes room : ℕ) → answer_to (summary q) bytes room ≡ answer_to q bytes room
 same_answer (answered t) bytes room = refl
 same_answer (refused e) bytes room = refl
 
--- what an answer tells
-pub record Settled (a : Told Table) (n bytes room : ℕ) : Type 0 where
-  pub table : Table
-  pub accepted : a ≡ answered table
-  pub bytes_is : n ≡ bytes
-  pub room_is : bytes ≤ room
-
-pub settled : (a : Told Table) (n bytes room : ℕ) → answered n ≡ answer_to a bytes room → Settled a n bytes room
-settled (answered t) n bytes room h =
-    let c = cond_ok (leb bytes room) (answered bytes) _ n (sym h) in
-    record { table = t; accepted = refl; bytes_is = sym (answer_same bytes n c.1); room_is = leb-true bytes room c.0 }
-settled (refused e) n bytes room h = absurd (clash e n (sym h))
-
 -- rows within limits are written wherever there is room
 
-pub limits_written : (rows : Rows) (room : ℕ) → Limits rows → length (render rows) ≤ room → written rows room ≡ answered (length (render rows))
-limits_written rows room h r =
-    let e : check_lines 32 16 (render rows) ≡ answered rows = lines_render 32 16 rows ∙ fits_good 32 16 rows h h.kind_count.1 h.task_count.1 in
-    rw (e, le-leb (length (render rows)) room r)
+pub taken : (rows : Rows) (room : ℕ) (a : Told ℕ) → a ≡ written rows room → Taken rows room a
+taken rows room a e h r =
+    let c : check_lines 32 16 (render rows) ≡ answered rows = lines_render 32 16 rows ∙ fits_good 32 16 rows h h.kind_count.1 h.task_count.1 in
+    rw (e, c, le-leb (length (render rows)) room r)
 
 module _ (rows : Rows) (text : List ℕ) (drawn : text ≡ render (clip rows)) (short : length text ≤ 8192) where
   checked : check text 32 16 ≡ check_lines 32 16 (render rows)
@@ -57,7 +42,7 @@ module _ (rows : Rows) (text : List ℕ) (drawn : text ≡ render (clip rows)) (
     accepted_rows = check_sound text 32 16 rows (h ∙ ap answered tells.same)
 
   -- the answer to what the reader said is the answer to the rows
-  pub answer_is : (room : ℕ) → answer_to (summary (check text 32 16)) (length text) room ≡ written rows room
+  answer_is : (room : ℕ) → answer_to (summary (check text 32 16)) (length text) room ≡ written rows room
   answer_is room = go (check text 32 16) refl
     where
       go : (q : Told Rows) → check text 32 16 ≡ q → answer_to (summary (check text 32 16)) (length text) room ≡ written rows room
@@ -69,7 +54,20 @@ module _ (rows : Rows) (text : List ℕ) (drawn : text ≡ render (clip rows)) (
           ap (λ q. answer_to (summary q) (length text) room) e
           ∙ ap (λ q. answer_to q (length (render rows)) room) (sym e ∙ checked)
 
+  -- refused by the reader
+  pub refused_is : (room : ℕ) (e : Refusal) → refused e ≡ summary (check text 32 16) → refused e ≡ written rows room
+  refused_is room e h = ap (λ a. answer_to a (length text) room) h ∙ answer_is room
+
   module _ (t : Table) (h : answered t ≡ summary (check text 32 16)) where
+    accepted_is : (room : ℕ) → answer_to (answered t) (length text) room ≡ written rows room
+    accepted_is room = ap (λ a. answer_to a (length text) room) h ∙ answer_is room
+
+    pub too_long : (room : ℕ) → room < length text → refuse 6 0 0 ≡ written rows room
+    too_long room l = sym (cond-false (leb (length text) room) _ _ (lt-leb (length text) room l)) ∙ accepted_is room
+
+    pub fitting : (room : ℕ) → length text ≤ room → answered (length text) ≡ written rows room
+    fitting room l = sym (cond-true (leb (length text) room) _ _ (le-leb (length text) room l)) ∙ accepted_is room
+
     read_rows : (y : Rows) × (check text 32 16 ≡ answered y)
     read_rows = go (check text 32 16) refl
       where
@@ -91,7 +89,7 @@ module _ (rows : Rows) (text : List ℕ) (drawn : text ≡ render (clip rows)) (
               (record { text_is = a.text_is; limits = a.limits; kind_room = omega arith; task_room = omega arith });
         }
 
--- the front of the buffer is the text
+-- the front of a buffer is the text that was copied there
 
-pub taken_back : (text old new : List ℕ) → new ≡ overlaid text old → take (length text) new ≡ text
-taken_back text old new e = ap (take (length text)) e ∙ take_at text (drop (length text) old) (length text) refl
+pub copied : (text new rest : List ℕ) → new ≡ text → take (length text) (new ++ rest) ≡ text
+copied text new rest e = rw e (take_at text rest (length text) refl)

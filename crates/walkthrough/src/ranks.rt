@@ -1,11 +1,24 @@
 // The tasks of the example go into the queue, and come out by rank.
-use fault::Fault;
 use queue::{Queue, Rank};
 use std::io;
 
+const RANKS: [Rank; 3] = [
+    Rank {
+        deadline: 100,
+        task: 2,
+    },
+    Rank {
+        deadline: 50,
+        task: 1,
+    },
+    Rank {
+        deadline: 75,
+        task: 3,
+    },
+];
+
 fn put_rank(rt: &HostRuntime, queue: &mut Queue<Rank>, rank: Rank) -> io::Result<()> {
-    let task = rank.task;
-    let deadline = rank.deadline;
+    let Rank { deadline, task } = rank;
     match queue.put(rank) {
         Ok(()) => println!(rt; "ranks: task {task} with deadline {deadline} is put"),
         Err(fault) => println!(rt; "ranks: task {task} is not put, {fault}"),
@@ -14,45 +27,22 @@ fn put_rank(rt: &HostRuntime, queue: &mut Queue<Rank>, rank: Rank) -> io::Result
 
 fn take_rank(rt: &HostRuntime, queue: &mut Queue<Rank>) -> io::Result<()> {
     match queue.take() {
-        Some(rank) => {
-            let task = rank.task;
-            println!(rt; "ranks: task {task} is taken, {} left", queue.len())
-        }
+        Some(Rank { task, .. }) => println!(rt;
+            "ranks: task {task} is taken, {} left",
+            queue.len()
+        ),
         None => println!(rt; "ranks: none is left"),
     }
 }
 
 pub(crate) fn rank_tasks(rt: &HostRuntime) -> io::Result<()> {
-    let mut room = [Rank {
-        deadline: 0,
-        task: 0,
-    }; 2];
+    let mut room = [RANKS[0]; 2];
     let mut queue = Queue::new(&mut room);
-    put_rank(
-        rt,
-        &mut queue,
-        Rank {
-            deadline: 100,
-            task: 2,
-        },
-    )?;
-    put_rank(
-        rt,
-        &mut queue,
-        Rank {
-            deadline: 50,
-            task: 1,
-        },
-    )?;
-    put_rank(
-        rt,
-        &mut queue,
-        Rank {
-            deadline: 75,
-            task: 3,
-        },
-    )?;
-    take_rank(rt, &mut queue)?;
-    take_rank(rt, &mut queue)?;
-    take_rank(rt, &mut queue)
+    for rank in RANKS {
+        put_rank(rt, &mut queue, rank)?;
+    }
+    for _ in RANKS {
+        take_rank(rt, &mut queue)?;
+    }
+    Ok(())
 }

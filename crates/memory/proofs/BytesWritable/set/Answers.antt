@@ -1,11 +1,28 @@
-use Rattle.std.proofs.Common.{rules}
-use Rattle.memory.proofs.WordBytes.{length_words, set_words, tail_put4}
+use Rattle.std.proofs.Common.{rules, ◌∙◌, arith}
+use Rattle.memory.proofs.WordBytes.{length_words, put_mid4, words_put_mid, tail_put_mid}
 use Rattle.memory.proofs.BytesWritable.set.Goals as goal
 
-pub returns-then-place-self : goal.returns-then-place-self
-returns-then-place-self c =
-    record { sets = search (rules, length_words); bytes = search rules; tail = search rules }
+pub returns-then-place-len-clause-bytes : goal.returns-then-place-len-clause-bytes
+returns-then-place-len-clause-bytes c = search (rules, length_words)
 
-pub returns : goal.returns
-returns c =
-    record { sets = search (rules, length_words, set_words); bytes = search rules; tail = search (rules, tail_put4) }
+pub overflow_mul-at : goal.overflow_mul-at
+overflow_mul-at c = omega (arith, length_words c.args.self.now.bytes.now)
+
+pub overflow_add-at : goal.overflow_add-at
+overflow_add-at c = omega (arith, length_words c.args.self.now.bytes.now)
+
+pub slice_bounds-copy_from_slice-end : goal.slice_bounds-copy_from_slice-end
+slice_bounds-copy_from_slice-end c = omega (arith, length_words c.args.self.now.bytes.now)
+
+pub returns-clause-sets : goal.returns-clause-sets
+returns-clause-sets c =
+    let l = length_words c.args.self.now.bytes.now in
+    (omega arith, words_put_mid c.args.self.now.bytes.now _ c.args.place _ c.args.value (c.copy_from_slice.ensures.after ∙ c.to_be_bytes.ensures) (omega arith) (omega arith) c.ranges.value.fits)
+
+pub returns-clause-bytes : goal.returns-clause-bytes
+returns-clause-bytes c = search (rules, length_words, put_mid4)
+
+pub returns-clause-tail : goal.returns-clause-tail
+returns-clause-tail c =
+    let l = length_words c.args.self.now.bytes.now in
+    tail_put_mid c.args.self.now.bytes.now _ c.args.place _ c.args.value (c.copy_from_slice.ensures.after ∙ c.to_be_bytes.ensures) (omega arith) (omega arith)

@@ -1,27 +1,24 @@
-use Rattle.std.proofs.Common.{length, get_or, sym, ap, ◌∙◌, arith, rules}
+use Rattle.std.proofs.Common.{length, ap, rules}
+use Rattle.std.specs.Range.{range_inclusive_start, range_inclusive_end}
+use Rattle.std.proofs.lemmas.Result.{err_from_is_err_and}
 use Rattle.fault.specs.Told.{told}
-use Rattle.table.specs.Places.{spot}
-use Rattle.table.proofs.Lexed.{comma_class, not_comma}
-use Rattle.table.proofs.Steps.{some_byte, front_fits, past_front, number_missing, number_there}
+use Rattle.table.proofs.Lexed.{comma_ahead, no_comma}
+use Rattle.table.proofs.Steps.{front_fits, past_front, number_missing, number_there}
 use Rattle.table.proofs.reader.Reader.number.Goals as goal
 
-pub returns-in_default : goal.returns-in_default
-returns-in_default c =
-    let n = not_comma (get_or c.args.self.now.rest.now 0 0) (λ e. c.in_default.not-Comma (c.ahead.ensures ∙ e)) in
-    number_missing c.args.low c.args.high (spot c.args.self.now) _ n c.refuse.ensures
+pub returns-in_err-expect : goal.returns-in_err-expect
+returns-in_err-expect c =
+    let s = c.args.self.now in
+    let p = err_from_is_err_and c.from_residual.result c.from_residual.ensures.1 in
+    rw (p.1, p.2) (number_missing (range_inclusive_start c.args.limits) (range_inclusive_end c.args.limits) s _ (no_comma s.rest c.in_err-expect.ensures.missing.0) c.in_err-expect.ensures.missing.1)
 
 pub pass-requires : goal.pass-requires
 pass-requires c =
-    let text = c.args.self.now.rest.now in
-    some_byte text 44 (omega arith) (comma_class (get_or text 0 0) (sym c.in-Comma.ensures))
-
-pub pass-requires-2 : goal.pass-requires-2
-pass-requires-2 c =
-    front_fits c.pass.new.self.rest.now c.peek-field.result.part.now c.peek-field.ensures.part
+    front_fits c.expect.new.self.rest c.peek-field.result.part.now c.peek-field.ensures.part
 
 pub returns : goal.returns
 returns c =
-    let text = c.args.self.now.rest.now in
-    number_there c.args.low c.args.high (spot c.args.self.now) (spot c.pass.new.self) (spot c.pass-2.new.self) (told c.limited.result)
-    (comma_class (get_or text 0 0) (sym c.in-Comma.ensures)) c.pass.ensures (search rules)
-    (past_front (spot c.pass.new.self) (spot c.pass-2.new.self) (length c.peek-field.result.part.now) c.pass-2.ensures (ap length c.peek-field.ensures.part))
+    let s = c.args.self.now in
+    number_there (range_inclusive_start c.args.limits) (range_inclusive_end c.args.limits) s c.expect.new.self c.pass.new.self (told c.limited.result)
+    (comma_ahead s.rest c.in_ok-expect.ensures.there.0) c.in_ok-expect.ensures.there.1 (search rules)
+    (past_front c.expect.new.self c.pass.new.self (length c.peek-field.result.part.now) c.pass.ensures (ap length c.peek-field.ensures.part))

@@ -1,60 +1,57 @@
-use Rattle.std.proofs.Common.{◌≡◌, ◌+◌, ◌-◌, min, true, false, length, take, sym, ap, ◌∙◌, arith}
-use Rattle.std.proofs.lemmas.List.{take_more_set}
+use Rattle.std.proofs.Common.{◌≡◌, ◌-◌, ◌<◌, min, true, false, sym, ap, ◌∙◌, arith}
 use Rattle.std.proofs.lemmas.Result.{err_from_is_err_and}
 use Rattle.std.proofs.lemmas.Bool.{cond-true, cond-false}
+use Rattle.std.proofs.lemmas.Bool.Decides.{nat_tests}
+use Rattle.arrayvec.specs.ArrayVec.{array_vec_len}
 use Rattle.fault.specs.Told.{answered, refusal}
 use Rattle.table.specs.Checking.{leads, past_word, more_lines}
-use Rattle.table.specs.Places.{spot}
 use Rattle.table.proofs.Lined.{following, lines_turn, lines_fail, lines_full, lines_other}
 use Rattle.table.proofs.reader.Reader.rows.Goals as goal
+use Rattle.table.proofs.reader.Reader.rows.Goals.{then-loop-rows-test+then-not-is_full+else-takes, then-loop-rows-test+else-not-is_full, else-loop-rows-test}
 
-pub returns-in_err-rows : goal.returns-in_err-rows
-returns-in_err-rows g c =
+pub returns-in_err-read-clause-answer : goal.returns-in_err-read-clause-answer
+returns-in_err-read-clause-answer g c =
     let w = c.args.word.now in
-    let s = spot c.loop-n.self in
-    let room = min (length c.args.rows.now) c.args.room in
+    let s = c.loop-rows.self in
+    let n = array_vec_len c.loop-rows.rows in
+    let room = min g.row.N c.args.room in
+    let h : 0 < room - n = grind (arith, nat_tests) in
     let l : leads w s ≡ true = sym c.takes.ensures.answer ∙ c.if-takes.true in
-    let p : spot c.takes.new.self ≡ past_word w s = c.takes.ensures.place ∙ cond-true c.takes.result (past_word w s) s c.if-takes.true in
+    let p : c.takes.new.self ≡ past_word w s = c.takes.ensures.place ∙ cond-true c.takes.result (past_word w s) s c.if-takes.true in
     let q = err_from_is_err_and c.from_residual.result c.from_residual.ensures.1 in
-    let e = lines_fail w g.R.Row.reads (room - c.loop-n.n) s (refusal c.in_err-rows.field-0.0) (take c.loop-n.n c.loop-n.rows) (omega arith) l (ap g.R.Row.reads (sym p) ∙ c.in_err-rows.ensures) in
-    rw (q.1, q.2) (record { answer = c.loop-n.invariant.0 ∙ e; few = tt })
+    rw (q.1, q.2)
+    (c.loop-rows.invariant.0
+    ∙ lines_fail w g.R.Row.reads (room - n) s (refusal c.in_err-read.field-0.0) c.loop-rows.rows.items h l (ap g.R.Row.reads (sym p) ∙ c.in_err-read.ensures))
 
-pub loop-n-preserved : goal.loop-n-preserved
-loop-n-preserved g c =
+pub loop-rows-preserved : goal.loop-rows-preserved
+loop-rows-preserved g c =
     let w = c.args.word.now in
-    let s = spot c.loop-n.self in
-    let n = c.loop-n.n in
-    let room = min (length c.args.rows.now) c.args.room in
+    let s = c.loop-rows.self in
+    let n = array_vec_len c.loop-rows.rows in
+    let m = array_vec_len c.push.new.self in
+    let room = min g.row.N c.args.room in
+    let h : n < room = grind (arith, nat_tests) in
     let l : leads w s ≡ true = sym c.takes.ensures.answer ∙ c.if-takes.true in
-    let p : spot c.takes.new.self ≡ past_word w s = c.takes.ensures.place ∙ cond-true c.takes.result (past_word w s) s c.if-takes.true in
-    let t = lines_turn w g.R.Row.reads (room - (n + 1)) (room - n) s (spot c.read.new.reader) c.in_ok-rows.field-0 (take n c.loop-n.rows) (omega arith) l (ap g.R.Row.reads (sym p) ∙ c.in_ok-rows.ensures) in
-    let m = take_more_set c.loop-n.rows n c.in_ok-rows.field-0 (omega arith) in
-    (c.loop-n.invariant.0 ∙ t ∙ ap (λ x. following x (more_lines w g.R.Row.reads (room - (n + 1)) (spot c.read.new.reader))) (sym m), omega arith)
+    let p : c.takes.new.self ≡ past_word w s = c.takes.ensures.place ∙ cond-true c.takes.result (past_word w s) s c.if-takes.true in
+    let t = lines_turn w g.R.Row.reads (room - m) (room - n) s c.read.new.reader c.in_ok-read.field-0 c.loop-rows.rows.items (omega (arith, c.push.ensures.len)) l (ap g.R.Row.reads (sym p) ∙ c.in_ok-read.ensures) in
+    (c.loop-rows.invariant.0 ∙ t ∙ ap (λ x. following x (more_lines w g.R.Row.reads (room - m) c.read.new.reader)) (sym c.push.ensures.items), omega (arith, c.push.ensures.len))
 
-pub returns-else-takes : goal.returns-else-takes
-returns-else-takes g c =
-    let w = c.args.word.now in
-    let room = min (length c.args.rows.now) c.args.room in
-    let l : leads w (spot c.loop-n.self) ≡ false = sym c.takes.ensures.answer ∙ c.if-takes.false in
-    let p : spot c.takes.new.self ≡ spot c.loop-n.self = c.takes.ensures.place ∙ cond-false c.takes.result (past_word w (spot c.loop-n.self)) (spot c.loop-n.self) c.if-takes.false in
-    let rows = take c.loop-n.n c.loop-n.rows in
-    record {
-      answer = c.loop-n.invariant.0 ∙ lines_other w g.R.Row.reads (room - c.loop-n.n) (spot c.loop-n.self) rows l ∙ ap (λ x. answered (rows, x)) (sym p);
-      few = omega arith;
-    }
-
-pub returns-else-n-room : goal.returns-else-n-room
-returns-else-n-room g c =
-    let room = min (length c.args.rows.now) c.args.room in
-    record {
-      answer = c.loop-n.invariant.0 ∙ lines_full c.args.word.now g.R.Row.reads (room - c.loop-n.n) (spot c.loop-n.self) (take c.loop-n.n c.loop-n.rows) (omega arith);
-      few = omega arith;
-    }
-
-pub returns-after-loop-n : goal.returns-after-loop-n
-returns-after-loop-n g c =
-    let room = min (length c.args.rows.now) c.args.room in
-    record {
-      answer = c.loop-n.invariant.0 ∙ lines_full c.args.word.now g.R.Row.reads (room - c.loop-n.n) (spot c.loop-n.self) (take c.loop-n.n c.loop-n.rows) (omega arith);
-      few = omega arith;
-    }
+pub returns-clause-answer : goal.returns-clause-answer
+returns-clause-answer g c =
+    let word = c.args.word.now in
+    let s = c.loop-rows.self in
+    let rows = c.loop-rows.rows.items in
+    let n = array_vec_len c.loop-rows.rows in
+    let room = min g.row.N c.args.room in
+    elim c.loop-rows-test.branch [
+      | then-loop-rows-test+then-not-is_full+else-takes w ↦ (
+          let l : leads word s ≡ false = sym w.takes.ensures.answer ∙ w.if-takes.false in
+          let p : w.takes.new.self ≡ s = w.takes.ensures.place ∙ cond-false w.takes.result (past_word word s) s w.if-takes.false in
+          c.loop-rows.invariant.0 ∙ lines_other word g.R.Row.reads (room - n) s rows l ∙ ap (λ x. answered (rows, x)) (sym (w.self-is ∙ p)))
+      | then-loop-rows-test+else-not-is_full w ↦ (
+          let h : room - n ≡ 0 = grind (arith, nat_tests) in
+          c.loop-rows.invariant.0 ∙ lines_full word g.R.Row.reads (room - n) s rows h ∙ ap (λ x. answered (rows, x)) (sym w.self-is))
+      | else-loop-rows-test w ↦ (
+          let h : room - n ≡ 0 = omega (arith, w.loop-rows-test.false, c.len.ensures.value) in
+          c.loop-rows.invariant.0 ∙ lines_full word g.R.Row.reads (room - n) s rows h ∙ ap (λ x. answered (rows, x)) (sym w.self-is))
+    ]

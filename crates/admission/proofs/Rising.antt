@@ -1,12 +1,20 @@
 -- What tasks ask for rises with the stretch, and takes at least their share of it.
-use Rattle.std.proofs.Common.{◌≡◌, ℕ, suc, ◌+◌, ◌-◌, ◌*◌, ◌/◌, ◌<◌, ◌≤◌, List, [], ◌∷◌, length, get_or, take, sum_by, ap, ◌∙◌, inl, inr, le_refl, mul-le-mul_right, mul_assoc, mul_comm, add-mul, mul-le-mul_left, zero-mul, mul-add, div-mul-le_self, arith}
+use Rattle.std.proofs.Common.{◌≡◌, ℕ, suc, ◌+◌, ◌-◌, ◌*◌, ◌/◌, ◌<◌, ◌≤◌, List, [], ◌∷◌, length, get_or, take, sum_by, ap, ◌∙◌, inl, inr, le_refl, le_trans, mul-le-mul, div-le_self, mul-le-mul_right, mul_assoc, mul_comm, add-mul, mul-le-mul_left, zero-mul, mul-add, div-mul-le_self, arith}
 use native.Mathlib.Nat.{mul-sub}
-use Rattle.std.proofs.lemmas.List.Sums.{sum_by-cons}
+use Rattle.std.proofs.lemmas.List.Elements.{All-from_get_or}
+use Rattle.std.proofs.lemmas.List.Sums.{sum_by-cons, sum_by-le}
 use Rattle.std.proofs.lemmas.List.{take_all}
 use Rattle.std.proofs.lemmas.Bool.{cases_lt}
 use Rattle.admission.specs.declared.task.Task.{Task}
-use Rattle.admission.specs.Demand.{up, asked, demand, load, units_of, DoneIn, Least, Sized, no_task}
-use Rattle.admission.proofs.Rounding.{up_covers, up_rises, up_least}
+use Rattle.admission.specs.declared.task.Share.{Share}
+use Rattle.admission.specs.declared.task.Share.TheVariants.{Words, Objects}
+use Rattle.admission.specs.Demand.{up, asked, demand, load, part_of, units_of, DoneIn, Least, Few, Sized, no_task}
+use Rattle.admission.proofs.Rounding.{up_covers, up_rises, up_least, up_small}
+
+-- a sum over tasks, of which each term is small
+pub sum_small : (f : Task → ℕ) (m : ℕ) (ts : List Task) → ((t : Task) → Sized t → f t ≤ m) → Few ts → sum_by f ts ≤ 16 * m
+sum_small f m ts small few =
+    le_trans (sum_by-le f m ts (All-from_get_or (λ t. f t ≤ m) ts no_task (λ k h. small (get_or ts k no_task) (few.1 k h)))) (mul-le-mul_right m few.0)
 
 abbrev pub EachSized : List Task → Type 0
 EachSized ts = (k : ℕ) → k < length ts → Sized (get_or ts k no_task)
@@ -112,3 +120,23 @@ stretch_from own left h l =
           let d : 0 * left ≡ 0 = zero-mul left in
           omega arith)
     ]
+
+-- what one task gives birth to is small
+pub births_small : (share : Share) (n : ℕ) (t : Task) → Sized t → n ≤ 2000000 → asked (part_of share) n t ≤ 16384000000
+births_small Words n t s h = mul-le-mul (le_trans (up_small n t.period s.some) h) s.words
+births_small Objects n t s h =
+    let a : asked (part_of Objects) n t ≤ 2000000 * 256 = mul-le-mul (le_trans (up_small n t.period s.some) h) s.objects in
+    omega arith
+
+-- what lives of one task is small
+pub lives_small : (share : Share) (t : Task) → Sized t → t.life * part_of share t ≤ 16384000000
+lives_small Words t s = mul-le-mul s.life s.words
+lives_small Objects t s =
+    let a : t.life * t.objects ≤ 2000000 * 256 = mul-le-mul s.life s.objects in
+    omega arith
+
+pub taken_small : (t : Task) → Sized t → taken_by t ≤ 1099511627776000000
+taken_small t s =
+    let a : taken_by t ≤ t.units * parts = div-le_self (t.units * parts) t.period in
+    let b : t.units * parts ≤ 1000000 * parts = mul-le-mul_right parts s.units in
+    omega arith

@@ -13,7 +13,7 @@ use Rattle.admission.specs.declared.figures.Bounds.{Bounds}
 use Rattle.admission.specs.Search.{least, largest}
 use Rattle.admission.specs.Admission.{weighed, responded, flipped, collected, sized, responses, done_in, room_for, steps_of, words_fit, handles_fit, fits, padded, scheduled, unscheduled, timetabled, misses_deadline}
 
-pub same_bounds : (rs : List Scheduled) {ss : List Scheduled} {m : Room} {q p r : ℕ} → rs ≡ ss → p ≡ r → ◌≡◌ {A = Bounds} (record { tasks = rs; room = m; span = q; period = p }) (record { tasks = ss; room = m; span = q; period = r })
+same_bounds : (rs : List Scheduled) {ss : List Scheduled} {m : Room} {q p r : ℕ} → rs ≡ ss → p ≡ r → ◌≡◌ {A = Bounds} (record { tasks = rs; room = m; span = q; period = p }) (record { tasks = ss; room = m; span = q; period = r })
 same_bounds rs {ss} {m} {q} {p} {r} e h =
     let bounds : List Scheduled → ℕ → Bounds = λ a b. record { tasks = a; room = m; span = q; period = b } in
     ap (λ a. bounds a p) e ∙ ap (bounds ss) h
@@ -54,7 +54,7 @@ module _ (heap : HeapRow) (statics : StaticRow) (kinds : ℕ) (ts : List Task) w
     with_room : weighed heap statics kinds ts ≡ collected ts rs m (least (done_in (steps_of m) ts) 1000000)
     with_room = after_flip rs f e h ∙ ap (λ o. collected ts rs o (least (done_in (steps_of o) ts) 1000000)) (sym r)
 
-    pub says_8_whole : None ≡ least (done_in (steps_of m) ts) 1000000 → weighed heap statics kinds ts ≡ refused (nowhere 8 in_admission)
+    says_8_whole : None ≡ least (done_in (steps_of m) ts) 1000000 → weighed heap statics kinds ts ≡ refused (nowhere 8 in_admission)
     unfolding collected
     says_8_whole n = with_room ∙ ap (collected ts rs m) (sym n)
 
@@ -74,3 +74,29 @@ module _ (heap : HeapRow) (statics : StaticRow) (kinds : ℕ) (ts : List Task) w
     pub says_plan : (q : ℕ) → Some q ≡ least (done_in (steps_of m) ts) 1000000 → true ≡ words_fit m ts q → true ≡ handles_fit m ts q → weighed heap statics kinds ts ≡ answered (record { tasks = padded 16 unscheduled (scheduled ts rs); room = m; span = q; period = largest (fits m ts) q 1000000 })
     unfolding sized
     says_plan q n w o = after_whole q n ∙ cond-true _ _ _ (sym w) ∙ cond-true _ _ _ (sym o)
+
+-- The same of what the calls answer: the tasks with their times, how late a flip is, the room, and the tasks that share it.
+module _ (heap : HeapRow) (statics : StaticRow) (kinds : ℕ) (ts : List Task) (tasks : List Scheduled) (f : ℕ) (m : Room) (ls : List Task) (e : answered tasks ≡ timetabled kinds ts (responses [] ts)) (h : Some f ≡ least (done_in 1 ts) 1000000) (r : m ≡ room_for heap statics ts f) (s : ls ≡ ts) where
+  spans : (o : Option ℕ) → o ≡ least (done_in (steps_of m) ls) 1000000 → o ≡ least (done_in (steps_of m) ts) 1000000
+  spans o n = n ∙ ap (λ l. least (done_in (steps_of m) l) 1000000) s
+
+  pub no_span : None ≡ least (done_in (steps_of m) ls) 1000000 → refused (nowhere 8 in_admission) ≡ weighed heap statics kinds ts
+  no_span n =
+      let t = timed_ok kinds ts (responses [] ts) tasks e in
+      sym (says_8_whole heap statics kinds ts t.0 f m t.1 h r (spans None n))
+
+  pub words_break : (q : ℕ) → Some q ≡ least (done_in (steps_of m) ls) 1000000 → false ≡ words_fit m ls q → refused (nowhere 9 in_admission) ≡ weighed heap statics kinds ts
+  words_break q n w =
+      let t = timed_ok kinds ts (responses [] ts) tasks e in
+      sym (says_9 heap statics kinds ts t.0 f m t.1 h r q (spans (Some q) n) (w ∙ ap (λ l. words_fit m l q) s))
+
+  pub handles_break : (q : ℕ) → Some q ≡ least (done_in (steps_of m) ls) 1000000 → true ≡ words_fit m ls q → false ≡ handles_fit m ls q → refused (nowhere 10 in_admission) ≡ weighed heap statics kinds ts
+  handles_break q n w o =
+      let t = timed_ok kinds ts (responses [] ts) tasks e in
+      sym (says_10 heap statics kinds ts t.0 f m t.1 h r q (spans (Some q) n) (w ∙ ap (λ l. words_fit m l q) s) (o ∙ ap (λ l. handles_fit m l q) s))
+
+  pub bounds_are : (q p : ℕ) → Some q ≡ least (done_in (steps_of m) ls) 1000000 → true ≡ words_fit m ls q → true ≡ handles_fit m ls q → p ≡ largest (fits m ls) q 1000000 → answered (record { tasks = tasks; room = m; span = q; period = p }) ≡ weighed heap statics kinds ts
+  bounds_are q p n w o l =
+      let t = timed_ok kinds ts (responses [] ts) tasks e in
+      ap (λ (b : Bounds). answered b) (same_bounds tasks t.2 (l ∙ ap (λ k. largest (fits m k) q 1000000) s))
+      ∙ sym (says_plan heap statics kinds ts t.0 f m t.1 h r q (spans (Some q) n) (w ∙ ap (λ k. words_fit m k q) s) (o ∙ ap (λ k. handles_fit m k q) s))

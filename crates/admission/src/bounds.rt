@@ -8,12 +8,13 @@ use crate::task::{Share, Task};
 
 // The least whole number not below p / q.
 pub(crate) fn up(p: u32, q: u32) -> u32
-    requires { 1 ≤ q }
+    requires some { 1 ≤ q }
+    requires small { (q ≤ 2000000) × (p ≤ 2000000) }
     ensures value { result ≡ lifted p q }
     ensures law { RoundsUp p q result }
     ensures small { result ≤ p }
 {
-    p.div_ceil(q)
+    (p + (q - 1)) / q
 }
 
 // One in this many parts of a tick, for shares of the time that are rounded down.
@@ -45,10 +46,11 @@ impl<'a> Tasks<'a> {
         requires small { own ≤ 1000000 }
         ensures { MatchOption result ((k : ℕ) → DoneIn own self.now.list.now k → ⊥) (λ n. (1 ≤ n) × ((k : ℕ) → DoneIn own self.now.list.now k → n ≤ k)) }
     {
-        let mut taken = 0;
-        for t in self.list {
-            taken += t.units as u64 * PARTS / t.period as u64;
-        }
+        let taken: u64 = self
+            .list
+            .iter()
+            .map(|t| t.units as u64 * PARTS / t.period as u64)
+            .sum();
         if taken >= PARTS {
             return None;
         }
@@ -88,11 +90,10 @@ impl<'a> Tasks<'a> {
         ensures value { result ≡ demand (part_of share) stretch self.now.list.now }
         ensures small { result ≤ 16 * 16384000000 }
     {
-        let mut sum = 0;
-        for t in self.list {
-            sum += up(stretch, t.period) as u64 * share.of(t) as u64;
-        }
-        sum
+        self.list
+            .iter()
+            .map(|t| up(stretch, t.period) as u64 * share.of(t) as u64)
+            .sum()
     }
 
     // What is alive at most beside what is static, by the lives of the tasks.
@@ -101,10 +102,11 @@ impl<'a> Tasks<'a> {
         ensures value { result ≡ live share statics self.now.list.now }
         ensures small { result ≤ 300000000000 }
     {
-        let mut sum = statics as u64;
-        for t in self.list {
-            sum += t.life as u64 * share.of(t) as u64;
-        }
-        sum
+        let living: u64 = self
+            .list
+            .iter()
+            .map(|t| t.life as u64 * share.of(t) as u64)
+            .sum();
+        statics as u64 + living
     }
 }

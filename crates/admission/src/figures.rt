@@ -23,7 +23,7 @@ pub struct Bounds {
 
 // The rows with the tasks in rank order and their response times, the live bounds, the steps of a collection at most, how late a flip can be,
 // the least stretch that holds a whole collection, and the collector's period. All 0 where nothing is admitted.
-#[derive(Clone, Copy)]
+#[derive(Clone, Copy, Default)]
 pub struct Figures {
     pub heap: HeapRow,
     pub statics: StaticRow,

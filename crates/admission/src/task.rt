@@ -14,28 +14,12 @@ pub struct Task {
     pub consumer: u32,
 }
 
-pub const NO_TASK: Task = Task {
-    number: 0,
-    period: 0,
-    deadline: 0,
-    units: 0,
-    words: 0,
-    objects: 0,
-    life: 0,
-    consumer: 0,
-};
-
 // A task, and the response time of its jobs.
-#[derive(Clone, Copy, PartialEq, Eq, Debug)]
+#[derive(Clone, Copy, PartialEq, Eq, Default, Debug)]
 pub struct Scheduled {
     pub task: Task,
     pub response: u32,
 }
-
-pub const UNSCHEDULED: Scheduled = Scheduled {
-    task: NO_TASK,
-    response: 0,
-};
 
 // What a job may allocate: words, or objects.
 #[derive(Clone, Copy, PartialEq, Eq, Debug)]

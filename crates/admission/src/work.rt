@@ -7,7 +7,7 @@ use crate::accepted::Accepted;
 use crate::bounds::Tasks;
 use crate::figures::{Bounds, Figures, Room};
 use crate::room::Shared;
-use crate::task::{Scheduled, Share, Task, UNSCHEDULED};
+use crate::task::{Scheduled, Share, Task};
 use fault::{Cause, Fault, Layer};
 use table::rows::{KindRow, MAX_KINDS, MAX_PERIOD, MAX_TASKS, NO_KIND};
 
@@ -35,7 +35,7 @@ impl<'a> Accepted<'a> {
     fn schedule(&self, tasks: &Tasks) -> Result<[Scheduled; MAX_TASKS], Fault>
         ensures { told result ≡ timetabled (length self.now.kinds.now) tasks.now.list.now (responses [] tasks.now.list.now) }
     {
-        let mut scheduled = [UNSCHEDULED; MAX_TASKS];
+        let mut scheduled = [Scheduled::default(); MAX_TASKS];
         for (i, task) in tasks.list.iter().enumerate() {
             let response = tasks
                 .best(i)

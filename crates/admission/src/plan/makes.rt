@@ -8,31 +8,9 @@ ghost use Rattle.admission.specs.Admitted.{admitted, done, planned};
 use super::Plan;
 use crate::accepted::Accepted;
 use crate::figures::Figures;
-use crate::task::UNSCHEDULED;
 use fault::Fault;
-use table::rows::{HeapRow, KindRow, MAX_KINDS, MAX_TASKS, NO_KIND, StaticRow, TaskRow};
+use table::rows::{KindRow, TaskRow};
 use table::{Table, read};
-
-static BLANK: Figures = Figures {
-    heap: HeapRow {
-        space: 0,
-        handles: 0,
-    },
-    statics: StaticRow {
-        words: 0,
-        objects: 0,
-    },
-    kinds: [NO_KIND; MAX_KINDS],
-    kind_count: 0,
-    tasks: [UNSCHEDULED; MAX_TASKS],
-    task_count: 0,
-    live_words: 0,
-    live_objects: 0,
-    steps: 0,
-    lateness: 0,
-    span: 0,
-    period: 0,
-};
 
 // Reads a table and works out the longest period of the collector. The rows go to the front of the two lists once the text is accepted, and stay
 // if a bound then breaks; the plan is blank after every refusal.
@@ -72,7 +50,9 @@ impl Plan {
     pub fn blank() -> Plan
         ensures { figures_in result ≡ blank_figures }
     {
-        Plan { figures: BLANK }
+        Plan {
+            figures: Figures::default(),
+        }
     }
 
     // What admission worked out; all 0 in a blank plan.

@@ -1,10 +1,8 @@
 use Rattle.std.proofs.Common.{[], length, sym, ap, ◌∙◌}
 use Rattle.std.proofs.lemmas.Result.{err_from_is_err_and}
-use Rattle.fault.specs.Told.{refused, answered}
-use Rattle.admission.specs.Search.{least, largest}
-use Rattle.admission.specs.Admission.{responses, done_in, steps_of, words_fit, handles_fit, fits}
-use Rattle.admission.specs.declared.figures.Bounds.{Bounds}
-use Rattle.admission.proofs.Verdicts.{same_bounds, not_found, timed_ok, timed_err, says_7, says_8_flip, says_8_whole, says_9, says_10, says_plan}
+use Rattle.fault.specs.Told.{refused}
+use Rattle.admission.specs.Admission.{responses}
+use Rattle.admission.proofs.Verdicts.{not_found, timed_ok, timed_err, says_7, says_8_flip, no_span, words_break, handles_break, bounds_are}
 use Rattle.admission.proofs.accepted.Accepted.weigh.Goals as goal
 
 pub returns-in_err-scheduled-clause-value : goal.returns-in_err-scheduled-clause-value
@@ -28,56 +26,36 @@ returns-in_err-lateness-clause-value c =
 pub returns-in_err-span-clause-value : goal.returns-in_err-span-clause-value
 returns-in_err-span-clause-value c =
     let a = c.args.self.now in
-    let ts = c.args.tasks.now.list.now in
-    let t = timed_ok (length a.kinds.now) ts (responses [] ts) _ c.in_ok-scheduled.ensures in
+    let m = c.room_for-shared in
     let late = sym c.in_ok-lateness.ensures.ok_part ∙ c.settle.ensures.value in
-    let m = c.room_for-shared.result.room in
     let o = not_found c.span.result c.nowhere-overload.result c.in_err-span.field-0.0 c.in_err-span.ensures.value in
     let p = err_from_is_err_and c.from_residual-in_err-span.result c.from_residual-in_err-span.ensures.1 in
-    let none = o.0 ∙ c.span.ensures.value ∙ ap (λ l. least (done_in (steps_of m) l) 1000000) c.room_for-shared.ensures.tasks in
     rw (p.1, p.2, ← o.1)
     (ap refused c.nowhere-overload.ensures
-    ∙ sym (says_8_whole a.heap a.statics (length a.kinds.now) ts t.0 c.in_ok-lateness.lateness m t.1 late c.room_for-shared.ensures.room none))
+    ∙ no_span a.heap a.statics (length a.kinds.now) c.args.tasks.now.list.now _ c.in_ok-lateness.lateness m.result.room _ c.in_ok-scheduled.ensures late m.ensures.room m.ensures.tasks (o.0 ∙ c.span.ensures.value))
 
 pub returns-then-not-words_fit-clause-value : goal.returns-then-not-words_fit-clause-value
 returns-then-not-words_fit-clause-value c =
     let a = c.args.self.now in
-    let ts = c.args.tasks.now.list.now in
-    let t = timed_ok (length a.kinds.now) ts (responses [] ts) _ c.in_ok-scheduled.ensures in
+    let m = c.room_for-shared in
     let late = sym c.in_ok-lateness.ensures.ok_part ∙ c.settle.ensures.value in
-    let m = c.room_for-shared.result.room in
-    let whole = sym c.in_ok-span.ensures.ok_part ∙ c.span.ensures.value ∙ ap (λ l. least (done_in (steps_of m) l) 1000000) c.room_for-shared.ensures.tasks in
-    let q = c.in_ok-span.span in
-    let words = c.if-not-words_fit.ensures ∙ ap (λ l. words_fit m l q) c.room_for-shared.ensures.tasks in
+    let span = sym c.in_ok-span.ensures.ok_part ∙ c.span.ensures.value in
     ap refused c.nowhere.ensures
-    ∙ sym (says_9 a.heap a.statics (length a.kinds.now) ts t.0 c.in_ok-lateness.lateness m t.1 late c.room_for-shared.ensures.room q whole words)
+    ∙ words_break a.heap a.statics (length a.kinds.now) c.args.tasks.now.list.now _ c.in_ok-lateness.lateness m.result.room _ c.in_ok-scheduled.ensures late m.ensures.room m.ensures.tasks c.in_ok-span.span span c.if-not-words_fit.ensures
 
 pub returns-then-not-handles_fit-clause-value : goal.returns-then-not-handles_fit-clause-value
 returns-then-not-handles_fit-clause-value c =
     let a = c.args.self.now in
-    let ts = c.args.tasks.now.list.now in
-    let t = timed_ok (length a.kinds.now) ts (responses [] ts) _ c.in_ok-scheduled.ensures in
+    let m = c.room_for-shared in
     let late = sym c.in_ok-lateness.ensures.ok_part ∙ c.settle.ensures.value in
-    let m = c.room_for-shared.result.room in
-    let whole = sym c.in_ok-span.ensures.ok_part ∙ c.span.ensures.value ∙ ap (λ l. least (done_in (steps_of m) l) 1000000) c.room_for-shared.ensures.tasks in
-    let q = c.in_ok-span.span in
-    let words = c.if-not-words_fit.ensures ∙ ap (λ l. words_fit m l q) c.room_for-shared.ensures.tasks in
-    let handles = c.if-not-handles_fit.ensures ∙ ap (λ l. handles_fit m l q) c.room_for-shared.ensures.tasks in
+    let span = sym c.in_ok-span.ensures.ok_part ∙ c.span.ensures.value in
     ap refused c.nowhere-then-not-handles_fit.ensures
-    ∙ sym (says_10 a.heap a.statics (length a.kinds.now) ts t.0 c.in_ok-lateness.lateness m t.1 late c.room_for-shared.ensures.room q whole words handles)
+    ∙ handles_break a.heap a.statics (length a.kinds.now) c.args.tasks.now.list.now _ c.in_ok-lateness.lateness m.result.room _ c.in_ok-scheduled.ensures late m.ensures.room m.ensures.tasks c.in_ok-span.span span c.if-not-words_fit.ensures c.if-not-handles_fit.ensures
 
 pub returns-clause-value : goal.returns-clause-value
 returns-clause-value c =
     let a = c.args.self.now in
-    let ts = c.args.tasks.now.list.now in
-    let t = timed_ok (length a.kinds.now) ts (responses [] ts) _ c.in_ok-scheduled.ensures in
+    let m = c.room_for-shared in
     let late = sym c.in_ok-lateness.ensures.ok_part ∙ c.settle.ensures.value in
-    let m = c.room_for-shared.result.room in
-    let whole = sym c.in_ok-span.ensures.ok_part ∙ c.span.ensures.value ∙ ap (λ l. least (done_in (steps_of m) l) 1000000) c.room_for-shared.ensures.tasks in
-    let q = c.in_ok-span.span in
-    let e = c.room_for-shared.ensures.tasks in
-    let words = c.if-not-words_fit.ensures ∙ ap (λ l. words_fit m l q) e in
-    let handles = c.if-not-handles_fit.ensures ∙ ap (λ l. handles_fit m l q) e in
-    let longest = c.longest.ensures.value ∙ ap (λ l. largest (fits m l) q 1000000) e in
-    ap (λ (b : Bounds). answered b) (same_bounds c.in_ok-scheduled.scheduled t.2 longest)
-    ∙ sym (says_plan a.heap a.statics (length a.kinds.now) ts t.0 c.in_ok-lateness.lateness m t.1 late c.room_for-shared.ensures.room q whole words handles)
+    let span = sym c.in_ok-span.ensures.ok_part ∙ c.span.ensures.value in
+    bounds_are a.heap a.statics (length a.kinds.now) c.args.tasks.now.list.now _ c.in_ok-lateness.lateness m.result.room _ c.in_ok-scheduled.ensures late m.ensures.room m.ensures.tasks c.in_ok-span.span c.longest.result span c.if-not-words_fit.ensures c.if-not-handles_fit.ensures c.longest.ensures.value

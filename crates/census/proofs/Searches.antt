@@ -9,7 +9,7 @@ use Rattle.kinds.proofs.Bits.{no_high_bit}
 use Rattle.kinds.proofs.Ones.{scan_all}
 use Rattle.heap.specs.declared.Heap.{Heap}
 use Rattle.heap.specs.Handles.{is_spare, row, state_of, stray}
-use Rattle.heap.specs.Objects.{kind_of, size_of, is_ref, word_of, in_slot, along, times}
+use Rattle.heap.specs.Objects.{kind_of, size_of, is_ref, word_of, in_slot, along, times, measures_of}
 use Rattle.heap.specs.Room.{in_use}
 use Rattle.census.specs.declared.Finds.{Finds}
 use Rattle.census.specs.declared.Count.{Count}
@@ -68,7 +68,7 @@ stands h m f x s e =
     }
 
 -- any other is one more
-adds : (h : Heap) (m : List ℕ) (f : Finds) (x n : ℕ) → Sound h m f → x < length f.seen → n ≡ size_of h.measures h.table x → n ≤ 255 → (x ≢ 0 → Reachable h m x × (in_use h x ≡ true)) → (eqb x 0 || is_seen f x) ≡ false
+adds : (h : Heap) (m : List ℕ) (f : Finds) (x n : ℕ) → Sound h m f → x < length f.seen → n ≡ size_of (measures_of h) h.table x → n ≤ 255 → (x ≢ 0 → Reachable h m x × (in_use h x ≡ true)) → (eqb x 0 || is_seen f x) ≡ false
     → Noted h m f x (record { list = record { items = found f ++ x ∷ [] }; seen = set f.seen x true; words = f.words + n })
 adds h m f x n s l e k w t =
     let p = or_parts (eqb x 0) (is_seen f x) t in
@@ -99,7 +99,7 @@ adds h m f x n s l e k w t =
           count = let a = seen_more f.seen x l p.1 in omega arith;
           words = let a = s.tidy.words in omega arith;
         };
-        words = let a = sum_by_push (size_of h.measures h.table) (found f) x in let b = s.words in omega arith;
+        words = let a = sum_by_push (size_of (measures_of h) h.table) (found f) x in let b = s.words in omega arith;
       };
       grown = record {
         keeps = λ y g. elim (cases_eq y x) [ inl q ↦ (ap (λ (v : ℕ). get_or (set f.seen x true) v false) q ∙ here) | inr d ↦ (there y d ∙ g) ];
@@ -109,21 +109,21 @@ adds h m f x n s l e k w t =
       here = λ _. here;
     }
 
-noted_leaves : (h : Heap) (m : List ℕ) (f : Finds) (x : ℕ) → Sound h m f → x < length f.seen → size_of h.measures h.table x ≤ 255 → stray h.table x ≡ false → (x ≢ 0 → Reachable h m x)
-    → Noted h m f x (noted f x (size_of h.measures h.table x))
+noted_leaves : (h : Heap) (m : List ℕ) (f : Finds) (x : ℕ) → Sound h m f → x < length f.seen → size_of (measures_of h) h.table x ≤ 255 → stray h.table x ≡ false → (x ≢ 0 → Reachable h m x)
+    → Noted h m f x (noted f x (size_of (measures_of h) h.table x))
 noted_leaves h m f x s l k t w =
     cond_both (eqb x 0 || is_seen f x) f
-    (record { list = record { items = found f ++ x ∷ [] }; seen = set f.seen x true; words = f.words + size_of h.measures h.table x })
+    (record { list = record { items = found f ++ x ∷ [] }; seen = set f.seen x true; words = f.words + size_of (measures_of h) h.table x })
     (Noted h m f x)
     (stands h m f x s)
-    (adds h m f x (size_of h.measures h.table x) s l refl k (λ z. (w z, used_from h x t z)))
+    (adds h m f x (size_of (measures_of h) h.table x) s l refl k (λ z. (w z, used_from h x t z)))
 
 -- the same of what the code leaves, with the size that it found
-pub visited : (h : Heap) (m : List ℕ) (f g : Finds) (x n : ℕ) → Sound h m f → x < length f.seen → n ≡ size_of h.measures h.table x → n ≤ 255 → stray h.table x ≡ false → (x ≢ 0 → Reachable h m x)
+pub visited : (h : Heap) (m : List ℕ) (f g : Finds) (x n : ℕ) → Sound h m f → x < length f.seen → n ≡ size_of (measures_of h) h.table x → n ≤ 255 → stray h.table x ≡ false → (x ≢ 0 → Reachable h m x)
     → g ≡ noted f x n → Noted h m f x g
 visited h m f g x n s l e k t w q =
-    let size : size_of h.measures h.table x ≤ 255 = omega arith in
-    let left : noted f x (size_of h.measures h.table x) ≡ g = rw (← e) (sym q) in
+    let size : size_of (measures_of h) h.table x ≤ 255 = omega arith in
+    let left : noted f x (size_of (measures_of h) h.table x) ≡ g = rw (← e) (sym q) in
     subst (Noted h m f x) left (noted_leaves h m f x s l size t w)
 
 -- a search that has found nothing
@@ -144,13 +144,13 @@ begins h m =
         ]
 
 -- what a word names: nothing, unless it is a reference
-not_named : (h : Heap) (m : List ℕ) (x j : ℕ) → is_ref h.measures h.table x j ≡ false → named h m x j ≡ 0
-not_named h m x j e = cond-false (is_ref h.measures h.table x j) (word_of h m x j) 0 e
+not_named : (h : Heap) (m : List ℕ) (x j : ℕ) → is_ref (measures_of h) h.table x j ≡ false → named h m x j ≡ 0
+not_named h m x j e = cond-false (is_ref (measures_of h) h.table x j) (word_of h m x j) 0 e
 
 reachable_by : (h : Heap) (m : List ℕ) (x j : ℕ) → Reachable h m x → named h m x j ≢ 0 → Reachable h m (named h m x j)
 reachable_by h m x j r n =
-    elim (cases_Bool (is_ref h.measures h.table x j)) [
-      | inl t ↦ along j r t (sym (cond-true (is_ref h.measures h.table x j) (word_of h m x j) 0 t)) n
+    elim (cases_Bool (is_ref (measures_of h) h.table x j)) [
+      | inl t ↦ along j r t (sym (cond-true (is_ref (measures_of h) h.table x j) (word_of h m x j) 0 t)) n
       | inr f ↦ absurd (n (not_named h m x j f))
     ]
 
@@ -159,15 +159,15 @@ pub reached_by : (h : Heap) (m : List ℕ) (x j y : ℕ) → y ≡ named h m x j
 reached_by h m x j y e r n = subst (Reachable h m) (sym e) (reachable_by h m x j r (λ z. n (e ∙ z)))
 
 -- a word whose bit is not set is no reference
-bit_refers : (h : Heap) (m : List ℕ) (k : Kind) (x j : ℕ) → k ≡ kind_of h.measures (row h.table x).kind → bit k.map j ≡ false → named h m x j ≡ 0
+bit_refers : (h : Heap) (m : List ℕ) (k : Kind) (x j : ℕ) → k ≡ kind_of (measures_of h) (row h.table x).kind → bit k.map j ≡ false → named h m x j ≡ 0
 unfolding refers
 bit_refers h m k x j e b =
-    let r : is_ref h.measures h.table x j ≡ false =
+    let r : is_ref (measures_of h) h.table x j ≡ false =
     subst (λ (q : Kind). refers q j ≡ false) e (and_right (ltb j k.size) (bit k.map j) b) in
     not_named h m x j r
 
 -- the words up to the next reference, and that one, are followed
-pub followed_more : (h : Heap) (m : List ℕ) (k : Kind) (f g : Finds) (x from r : ℕ) → k ≡ kind_of h.measures (row h.table x).kind → Next k.map from r
+pub followed_more : (h : Heap) (m : List ℕ) (k : Kind) (f g : Finds) (x from r : ℕ) → k ≡ kind_of (measures_of h) (row h.table x).kind → Next k.map from r
     → Grown f g → (named h m x r ≢ 0 → is_seen g (named h m x r) ≡ true) → FollowedTo h m f x from → FollowedTo h m g x (r + 1)
 followed_more h m k f g x from r e n o here w j l z =
     elim (cases_lt j from) [
@@ -182,7 +182,7 @@ followed_more h m k f g x from r e n o here w j l z =
     ]
 
 -- when every set bit is met, every reference is followed
-pub followed_all : (h : Heap) (m : List ℕ) (k : Kind) (f : Finds) (x from : ℕ) → k ≡ kind_of h.measures (row h.table x).kind → k.map < 4294967296
+pub followed_all : (h : Heap) (m : List ℕ) (k : Kind) (f : Finds) (x from : ℕ) → k ≡ kind_of (measures_of h) (row h.table x).kind → k.map < 4294967296
     → bits_set k.map from ≡ bits_set k.map 32 → FollowedTo h m f x from → Followed h m f x
 followed_all h m k f x from e u b w j z =
     elim (cases_lt j from) [
@@ -236,7 +236,7 @@ all_seen h m f s r c x (in_slot i e n) =
 all_seen h m f s r c x (along {p = p} j q t e n) =
     let g = all_seen h m f s r c p q in
     let o : times p (take (length (found f)) (found f)) ≢ 0 = λ z'. (let z : times p (found f) ≡ 0 = ap (times p) (sym (take_all (length (found f)) (found f) (omega arith))) ∙ z' in let a = s.once p in let b : cond {A = ℕ} (is_seen f p) 1 0 ≡ 1 = cond-true (is_seen f p) 1 0 g in omega arith) in
-    let k : named h m p j ≡ x = cond-true (is_ref h.measures h.table p j) (word_of h m p j) 0 t ∙ e in
+    let k : named h m p j ≡ x = cond-true (is_ref (measures_of h) h.table p j) (word_of h m p j) 0 t ∙ e in
     subst (λ (a : ℕ). is_seen f a ≡ true) k (c p o j (λ z. n (sym k ∙ z)))
 
 -- then what is found is counted

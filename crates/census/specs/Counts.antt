@@ -3,7 +3,7 @@ use Rattle.std.specs.Prelude.{◌≡◌, ℕ, ◌<◌, ◌≤◌, true, false, �
 use Rattle.fault.specs.declared.Fault.{Fault}
 use Rattle.fault.specs.Told.{Refusal, Told, answered, refused, refusal, census}
 use Rattle.heap.specs.declared.Heap.{Heap}
-use Rattle.heap.specs.Objects.{view, word_of, size_of, footprint, Reached, times}
+use Rattle.heap.specs.Objects.{view, word_of, size_of, footprint, Reached, times, measures_of, prepared}
 use Rattle.heap.specs.Room.{in_use}
 use Rattle.census.specs.declared.Count.{Count}
 
@@ -18,7 +18,7 @@ pub record Counted (h : Heap) (m : List ℕ) (c : Count) : Type 0 where
   pub only : (x : ℕ) → times x listed ≢ 0 → Reachable h m x
   pub used : (x : ℕ) → Reachable h m x → in_use h x ≡ true
   pub objects : c.objects ≡ length listed
-  pub words : c.words ≡ sum_by (size_of h.measures h.table) listed
+  pub words : c.words ≡ sum_by (size_of (measures_of h) h.table) listed
 
 -- what is reachable leads to a number that is no handle in use
 abbrev pub Astray : Heap → List ℕ → Type 0
@@ -33,8 +33,8 @@ LedAstray h m e = (refusal e ≡ in_census 20 0) × Astray h m
 
 -- 12, then 1 at a length under both spaces, then 20, else the count
 abbrev pub Tells : Heap → List ℕ → Told Count → Type 0
-Tells h m (answered c) = (h.prepared ≡ true) × (footprint h.measures.limits ≤ length m) × Counted h m c
+Tells h m (answered c) = ((prepared h) ≡ true) × (footprint (measures_of h).limits ≤ length m) × Counted h m c
 Tells h m (refused r) =
-    ((h.prepared ≡ false) × (r ≡ in_census 12 0))
-    ⊎ (((h.prepared ≡ true) × (length m < footprint h.measures.limits) × (r ≡ in_census 1 (length m)))
-    ⊎ ((h.prepared ≡ true) × (footprint h.measures.limits ≤ length m) × (r ≡ in_census 20 0) × Astray h m))
+    (((prepared h) ≡ false) × (r ≡ in_census 12 0))
+    ⊎ ((((prepared h) ≡ true) × (length m < footprint (measures_of h).limits) × (r ≡ in_census 1 (length m)))
+    ⊎ (((prepared h) ≡ true) × (footprint (measures_of h).limits ≤ length m) × (r ≡ in_census 20 0) × Astray h m))

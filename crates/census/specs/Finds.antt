@@ -1,14 +1,14 @@
 -- The search behind the census: what it has found, and what one more number adds.
 use Rattle.std.specs.Prelude.{◌≡◌, ℕ, ◌+◌, ◌*◌, ◌<◌, ◌≤◌, Bool, true, false, cond, ◌||◌, ◌≢◌, List, [], ◌∷◌, ◌++◌, length, take, replicate, sum_by, count_by, ◌==◌, slice_index, slice_index_or, slice_set}
 use Rattle.heap.specs.declared.Heap.{Heap}
-use Rattle.heap.specs.Objects.{word_of, size_of, is_ref, times}
+use Rattle.heap.specs.Objects.{word_of, size_of, is_ref, times, measures_of}
 use Rattle.heap.specs.Room.{in_use}
 use Rattle.census.specs.declared.Finds.{Finds}
 use Rattle.census.specs.Counts.{Reachable}
 
 -- the handle that word j of x names, 0 for none and for a number word
 abbrev pub named : Heap → List ℕ → ℕ → ℕ → ℕ
-named h m x j = cond (is_ref h.measures h.table x j) (word_of h m x j) 0
+named h m x j = cond (is_ref (measures_of h) h.table x j) (word_of h m x j) 0
 
 abbrev pub is_seen : Finds → ℕ → Bool
 is_seen f x = slice_index_or f.seen x false
@@ -36,7 +36,7 @@ pub record Sound (h : Heap) (m : List ℕ) (f : Finds) : Type 0 where
   pub reached : (x : ℕ) → is_seen f x ≡ true → Reachable h m x × (in_use h x ≡ true)
   pub once : (x : ℕ) → times x (found f) ≡ cond (is_seen f x) 1 0
   pub tidy : Tidy f
-  pub words : f.words ≡ sum_by (size_of h.measures h.table) (found f)
+  pub words : f.words ≡ sum_by (size_of (measures_of h) h.table) (found f)
 
 -- the search goes on: what was found stays found, in its place
 pub record Grown (f g : Finds) : Type 0 where

@@ -1,7 +1,8 @@
 -- A call and a step write one word at most, and change nothing where they are refused.
-use Rattle.std.proofs.Common.{◌≡◌, ℕ, false, cond, eqb, List, set, sym, refl, ◌∙◌, inl, inr}
+use Rattle.heap.specs.Objects.{prepared}
+use Rattle.std.proofs.Common.{◌≡◌, ℕ, true, false, cond, eqb, List, set, sym, refl, ◌∙◌, inl, inr}
 use Rattle.std.proofs.lemmas.List.{get_or-set_other, length-set}
-use Rattle.std.proofs.lemmas.Bool.{cases_Bool, cond_both, cond-true, cond-false}
+use Rattle.std.proofs.lemmas.Bool.{cases_Bool, cond_both, cond-true, cond-false, ne_eqb}
 use Rattle.fault.specs.Told.{Refusal, Told, answered, refused}
 use Rattle.heap.specs.declared.Call.{Call}
 use Rattle.heap.specs.declared.Call.TheVariants.{New, Copy, Drop, Fetch, Put, Read, Write, Same, Kind}
@@ -10,7 +11,7 @@ use Rattle.heap.specs.declared.Phase.{Phase}
 use Rattle.heap.specs.declared.Phase.TheVariants.{Idle, Tracing, Sweeping, Clearing}
 use Rattle.heap.specs.Answers.{Ans, absent, in_heap}
 use Rattle.heap.specs.Calls.{taken, calling}
-use Rattle.heap.specs.Steps.{Stepped, step_by, goes, stays, after_flip, swept, take_step, copy_step}
+use Rattle.heap.specs.Steps.{Stepped, step_by, goes, stays, after_flip, swept, take_step, copy_step, step}
 use Rattle.heap.specs.Laws.{OneWord, SmallCall, SmallStep}
 
 unchanged : (m : List ℕ) → OneWord m m
@@ -94,6 +95,10 @@ by_phase (Clearing n) mover chain h m = done h _ m _ _ _ _ _
 
 pub small_step : (h : Heap) (m : List ℕ) → SmallStep h m
 small_step h m =
-    let s = cond_both h.prepared (step_by h.cycle.phase h.cycle.course.mover h.table.marked h m) (stays h m (in_heap 12)) (SmallStepped h m)
+    let s = cond_both (prepared h) (step_by h.cycle.phase h.cycle.course.mover h.table.marked h m) (stays h m (in_heap 12)) (SmallStepped h m)
     (λ _. by_phase h.cycle.phase h.cycle.course.mover h.table.marked h m) (λ _. asked h m _) in
     record { one_word = s.one_word; refused_changes_nothing = s.refused_changes_nothing }
+
+-- the step that an object under way calls for
+pub step_copies : (h : Heap) (m : List ℕ) → prepared h ≡ true → h.cycle.phase ≡ Tracing → (h.cycle.course.mover ≡ 0 → ⊥) → step h m ≡ copy_step h m
+step_copies h m p q n = let e : eqb h.cycle.course.mover 0 ≡ false = ne_eqb h.cycle.course.mover 0 n in rw (p, q, e)

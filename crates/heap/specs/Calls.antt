@@ -12,7 +12,7 @@ use Rattle.heap.specs.declared.Phase.{Phase}
 use Rattle.heap.specs.declared.Phase.TheVariants.{Idle, Tracing, Sweeping, Clearing}
 use Rattle.heap.specs.declared.Table.{Table}
 use Rattle.heap.specs.Handles.{row, stray, mark, pop_spare}
-use Rattle.heap.specs.Objects.{View, view, word_of, is_kind, size_in, loc}
+use Rattle.heap.specs.Objects.{View, view, word_of, is_kind, size_in, loc, measures_of, prepared}
 use Rattle.heap.specs.Answers.{Ans, ok, absent, num, says, first, ruled, judged}
 
 -- ---- what heap and graph check and answer alike
@@ -62,7 +62,7 @@ is_tracing (Clearing n) = false
 
 -- the words that may be born between two flips
 abbrev pub birth_limit : Heap → ℕ
-birth_limit h = cond h.cycle.flipped (h.measures.limits.space - h.measures.limits.live_words) h.measures.limits.space
+birth_limit h = cond h.cycle.flipped ((measures_of h).limits.space - (measures_of h).limits.live_words) (measures_of h).limits.space
 
 -- 18, 19: an object of n words has no room, or no handle
 abbrev pub on_room : Heap → ℕ → ℕ
@@ -70,19 +70,19 @@ on_room h n = cond (nat_le (h.cycle.course.born + n) (birth_limit h)) (cond (h.t
 
 -- 12 comes first
 abbrev pub on_heap : Heap → ℕ → ℕ
-on_heap h more = cond h.prepared more 12
+on_heap h more = cond (prepared h) more 12
 
 -- the first refusal before the memory is looked at, 0 for none
 abbrev pub barred : Heap → Call → ℕ
-barred h (New s k) = on_heap h (first (check h.measures (view h) (New s k)) (on_room h (size_in h.measures k)))
-barred h (Copy s t) = on_heap h (check h.measures (view h) (Copy s t))
-barred h (Drop s) = on_heap h (check h.measures (view h) (Drop s))
-barred h (Fetch s j t) = on_heap h (check h.measures (view h) (Fetch s j t))
-barred h (Put s j t) = on_heap h (check h.measures (view h) (Put s j t))
-barred h (Read s j) = on_heap h (check h.measures (view h) (Read s j))
-barred h (Write s j n) = on_heap h (check h.measures (view h) (Write s j n))
-barred h (Same s t) = on_heap h (check h.measures (view h) (Same s t))
-barred h (Kind s) = on_heap h (check h.measures (view h) (Kind s))
+barred h (New s k) = on_heap h (first (check (measures_of h) (view h) (New s k)) (on_room h (size_in (measures_of h) k)))
+barred h (Copy s t) = on_heap h (check (measures_of h) (view h) (Copy s t))
+barred h (Drop s) = on_heap h (check (measures_of h) (view h) (Drop s))
+barred h (Fetch s j t) = on_heap h (check (measures_of h) (view h) (Fetch s j t))
+barred h (Put s j t) = on_heap h (check (measures_of h) (view h) (Put s j t))
+barred h (Read s j) = on_heap h (check (measures_of h) (view h) (Read s j))
+barred h (Write s j n) = on_heap h (check (measures_of h) (view h) (Write s j n))
+barred h (Same s t) = on_heap h (check (measures_of h) (view h) (Same s t))
+barred h (Kind s) = on_heap h (check (measures_of h) (view h) (Kind s))
 
 -- what slot s holds
 abbrev pub held : Heap → ℕ → ℕ
@@ -130,13 +130,13 @@ verdict h m (Kind s) = barred h (Kind s)
 -- ---- what a call does, where nothing refuses it
 
 abbrev pub with_table : Heap → Table → Heap
-with_table h t = record { prepared = h.prepared; measures = h.measures; table = t; slots = h.slots; cycle = h.cycle }
+with_table h t = record { measures = h.measures; table = t; slots = h.slots; cycle = h.cycle }
 
 abbrev pub with_cycle : Heap → Cycle → Heap
-with_cycle h y = record { prepared = h.prepared; measures = h.measures; table = h.table; slots = h.slots; cycle = y }
+with_cycle h y = record { measures = h.measures; table = h.table; slots = h.slots; cycle = y }
 
 abbrev pub with_slot : Heap → ℕ → ℕ → Heap
-with_slot h s x = record { prepared = h.prepared; measures = h.measures; table = h.table; slots = slice_set h.slots s x; cycle = h.cycle }
+with_slot h s x = record { measures = h.measures; table = h.table; slots = slice_set h.slots s x; cycle = h.cycle }
 
 abbrev pub with_course : Cycle → Course → Cycle
 with_course y c = record { phase = y.phase; flipped = y.flipped; course = c; tally = y.tally }
@@ -147,7 +147,7 @@ more_born c n = record { base = c.base; born = c.born + n; settled = c.settled; 
 
 -- objects are born downward from the top of the current space
 abbrev pub birthplace : Heap → ℕ → ℕ
-birthplace h n = h.cycle.course.base + h.measures.limits.space - (h.cycle.course.born + n)
+birthplace h n = h.cycle.course.base + (measures_of h).limits.space - (h.cycle.course.born + n)
 
 -- slot s takes a fresh object of kind k, of n words
 abbrev pub birth : Heap → ℕ → ℕ → ℕ → Heap
@@ -165,7 +165,7 @@ abbrev pub taken : {A : Type 0} → ℕ → A → A → A
 taken n x y = cond (n == 0) x y
 
 abbrev pub heap_after : Heap → List ℕ → Call → Heap
-heap_after h m (New s k) = taken (barred h (New s k)) (birth h s k (size_in h.measures k)) h
+heap_after h m (New s k) = taken (barred h (New s k)) (birth h s k (size_in (measures_of h) k)) h
 heap_after h m (Copy s t) = taken (barred h (Copy s t)) (with_slot h t (held h s)) h
 heap_after h m (Drop s) = taken (barred h (Drop s)) (with_slot h s 0) h
 heap_after h m (Fetch s j t) = taken (verdict h m (Fetch s j t)) (with_slot h t (found h m s j)) h

@@ -1,5 +1,6 @@
 -- Objects: their kinds, sizes and reference words, where their words are, and what leads to them.
 use Rattle.std.specs.Prelude.{◌≡◌, ℕ, ◌+◌, ◌*◌, Bool, true, cond, ◌&&◌, ◌≢◌, List, [], ◌∷◌, length, ◌==◌, nat_le, nat_lt, slice_index, slice_index_or}
+use Rattle.std.specs.Option.{is_some, unwrap_or}
 use Rattle.kinds.specs.declared.Kind.{Kind}
 use Rattle.kinds.specs.Maps.{refers}
 use Rattle.heap.specs.declared.Table.{Table}
@@ -11,6 +12,16 @@ use Rattle.heap.specs.Handles.{row}
 
 abbrev pub no_kind : Kind
 no_kind = record { size = 0; map = 0 }
+
+-- before prepare the limits are 0, and there is no kind
+abbrev pub no_measures : Measures
+no_measures = record { limits = record { space = 0; handles = 0; live_words = 0; live_objects = 0 }; kinds = record { items = [] } }
+
+abbrev pub measures_of : Heap → Measures
+measures_of h = unwrap_or h.measures no_measures
+
+abbrev pub prepared : Heap → Bool
+prepared h = is_some h.measures
 
 abbrev pub kind_of : Measures → ℕ → Kind
 kind_of a k = slice_index_or (no_kind ∷ a.kinds.items) k no_kind
@@ -66,8 +77,8 @@ abbrev pub view : Heap → View
 view h = record {
   slot = λ s. slice_index h.slots s;
   kind = λ x. (row h.table x).kind;
-  size = size_of h.measures h.table;
-  is_reference = is_ref h.measures h.table;
+  size = size_of (measures_of h) h.table;
+  is_reference = is_ref (measures_of h) h.table;
 }
 
 -- the words of the objects, in a memory

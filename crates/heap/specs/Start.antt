@@ -1,5 +1,5 @@
 -- A bare heap, the measures, and what prepare makes of them.
-use Rattle.std.specs.Prelude.{ℕ, ◌+◌, Bool, true, false, cond, ◌&&◌, List, [], ◌∷◌, map, length, replicate, nat_le, nat_lt}
+use Rattle.std.specs.Prelude.{ℕ, ◌+◌, Bool, true, false, cond, ◌&&◌, List, [], ◌∷◌, map, length, replicate, Some, None, nat_le, nat_lt}
 use Rattle.std.specs.List.{range_with_len}
 use Rattle.fault.specs.Told.{Told, answered, refused, past_end}
 use Rattle.memory.specs.Words.{zeroed}
@@ -52,8 +52,7 @@ still = record {
 
 abbrev pub bare : Heap
 bare = record {
-  prepared = false;
-  measures = record { limits = record { space = 0; handles = 0; live_words = 0; live_objects = 0 }; kinds = record { items = [] } };
+  measures = None;
   table = record { handles = replicate 257 blank; spare = 0; marked = 0 };
   slots = replicate 192 0;
   cycle = still;
@@ -61,8 +60,7 @@ bare = record {
 
 abbrev pub fresh : Limits → List Kind → Heap
 fresh l ks = record {
-  prepared = true;
-  measures = record { limits = l; kinds = record { items = ks } };
+  measures = Some (record { limits = l; kinds = record { items = ks } });
   table = spare_table l.handles;
   slots = replicate 192 0;
   cycle = still;

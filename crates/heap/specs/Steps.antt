@@ -8,7 +8,7 @@ use Rattle.heap.specs.declared.Phase.TheVariants.{Idle, Tracing, Sweeping, Clear
 use Rattle.heap.specs.declared.Report.{Report}
 use Rattle.heap.specs.declared.Table.{Table}
 use Rattle.heap.specs.Handles.{row, mark, mark_all, pop_marked, settle, sweep, aged}
-use Rattle.heap.specs.Objects.{size_of, is_ref, target}
+use Rattle.heap.specs.Objects.{size_of, is_ref, target, measures_of, prepared}
 use Rattle.heap.specs.Answers.{Ans, absent, ended, first, in_heap, ruled, judged}
 use Rattle.heap.specs.Calls.{on_place, on_reference, with_table, with_cycle, taken}
 
@@ -60,7 +60,7 @@ after_flip h =
     (record {
       phase = phase_after (flipped_table h);
       flipped = true;
-      course = turned h.measures.limits.space h.cycle.course;
+      course = turned (measures_of h).limits.space h.cycle.course;
       tally = record { steps = 1; objects = 0; words = 0 };
     })
 
@@ -71,13 +71,13 @@ starts c x = record { base = c.base; born = c.born; settled = c.settled; mover =
 
 -- the size of the last marked object
 abbrev pub next_size : Heap → ℕ
-next_size h = size_of h.measures h.table h.table.marked
+next_size h = size_of (measures_of h) h.table h.table.marked
 
 -- one more object, and its words, keep the declared bounds
 abbrev pub keeps_bounds : Heap → Bool
 keeps_bounds h =
-    nat_le (h.cycle.tally.objects + 1) h.measures.limits.live_objects
-    && nat_le (h.cycle.tally.words + next_size h) h.measures.limits.live_words
+    nat_le (h.cycle.tally.objects + 1) (measures_of h).limits.live_objects
+    && nat_le (h.cycle.tally.words + next_size h) (measures_of h).limits.live_words
 
 abbrev pub taken_up : Heap → Heap
 taken_up h =
@@ -105,7 +105,7 @@ abbrev pub advanced : Heap → Heap
 advanced h =
     let t = h.table in
     let c = h.cycle.course in
-    cond (nat_lt (c.done + 1) (size_of h.measures t c.mover))
+    cond (nat_lt (c.done + 1) (size_of (measures_of h) t c.mover))
     (passed h Tracing (one_copied c))
     (passed (with_table h (settle t c.mover (target c))) (phase_after t) (arrived c h.cycle.tally.words))
 
@@ -118,7 +118,7 @@ destination h = target h.cycle.course + h.cycle.course.done
 
 -- the handle that this word names, 0 for none and for a number
 abbrev pub next_named : Heap → List ℕ → ℕ
-next_named h m = cond (is_ref h.measures h.table h.cycle.course.mover h.cycle.course.done) (slice_index m (source h)) 0
+next_named h m = cond (is_ref (measures_of h) h.table h.cycle.course.mover h.cycle.course.done) (slice_index m (source h)) 0
 
 -- 1, 20: it is read, and judged if it is a reference
 unfoldable pub on_next : Heap → List ℕ → ℕ
@@ -143,12 +143,12 @@ copy_step h m = record {
 
 abbrev pub swept : Heap → ℕ → Heap
 swept h n =
-    passed (with_table h (sweep h.table n)) (cond (nat_lt n h.measures.limits.handles) (Sweeping (n + 1)) (Clearing 0))
+    passed (with_table h (sweep h.table n)) (cond (nat_lt n (measures_of h).limits.handles) (Sweeping (n + 1)) (Clearing 0))
     h.cycle.course
 
 -- the place of word n of the other space
 abbrev pub clear_place : Heap → ℕ → ℕ
-clear_place h n = h.measures.limits.space - h.cycle.course.base + n
+clear_place h n = (measures_of h).limits.space - h.cycle.course.base + n
 
 -- 1: that place is past the end of the memory
 abbrev pub on_clear : Heap → List ℕ → ℕ → ℕ
@@ -161,7 +161,7 @@ closing r = ended (one_more r.steps) r.objects r.words
 -- word n of the other space becomes 0; the last one ends the collection
 abbrev pub clear_step : Heap → List ℕ → ℕ → Stepped
 clear_step h m n =
-    let more = ltb (n + 1) h.measures.limits.space in
+    let more = ltb (n + 1) (measures_of h).limits.space in
     record {
       told = ruled (on_clear h m n) (clear_place h n) (cond more absent (closing h.cycle.tally));
       heap = taken (on_clear h m n) (passed h (cond more (Clearing (n + 1)) Idle) h.cycle.course) h;
@@ -177,4 +177,4 @@ step_by (Sweeping n) mover chain h m = goes (swept h n) m
 step_by (Clearing n) mover chain h m = clear_step h m n
 
 abbrev pub step : Heap → List ℕ → Stepped
-step h m = cond h.prepared (step_by h.cycle.phase h.cycle.course.mover h.table.marked h m) (stays h m (in_heap 12))
+step h m = cond (prepared h) (step_by h.cycle.phase h.cycle.course.mover h.table.marked h m) (stays h m (in_heap 12))

@@ -1,14 +1,14 @@
 // The nine calls. Each is refused for the first reason that the definitions name, and a refused call changes nothing.
 ghost use Rattle.std.specs.Prelude.{◌≡◌, ◌<◌, ◌≤◌, true, false, ◌⊎◌, length, MatchOption, MatchResult, ◌==◌, slice_index, slice_index_or, slice_set};
 ghost use Rattle.fault.specs.Told.{refusal};
-ghost use Rattle.heap.specs.Objects.{no_kind, kind_of, size_in, is_kind, view};
+ghost use Rattle.heap.specs.Objects.{no_kind, measures_of, prepared, kind_of, size_in, is_kind, view};
 ghost use Rattle.heap.specs.Answers.{ok, num, says, of_unit, of_option, of_answer, tells, in_heap, refusal_at, ruled, judged};
 ghost use Rattle.heap.specs.Calls.{on_object, is_tracing, birth_limit, barred, on_reading, on_overwriting, held, spot, with_slot, birth, guarded, taken, kind_held, telling, heap_after, memory_after, calling};
 ghost use Rattle.heap.specs.declared.Answer.TheVariants.{Done, Absent, Number, Truth};
 ghost use Rattle.heap.specs.declared.Call.TheVariants.{New as calls_new, Copy as calls_copy, Drop as calls_drop, Fetch as calls_fetch, Put as calls_put, Read as calls_read, Write as calls_write, Same as calls_same, Kind as calls_kind};
 ghost use Rattle.heap.specs.Laws.{SmallCall};
 
-use crate::{Answer, Call, Course, Heap, Measures, Phase};
+use crate::{Answer, Call, Course, Heap, Limits, Measures, Phase};
 use fault::{Cause, Fault, Layer};
 use kinds::Kind;
 use memory::{Readable, Writable};
@@ -25,14 +25,32 @@ impl Measures {
 }
 
 impl Heap {
+    // All 0 before prepare.
+    pub(crate) fn limits(&self) -> Limits
+        ensures { result ≡ (measures_of self.now).limits }
+    {
+        match &self.measures {
+            Some(measures) => measures.limits,
+            None => Limits::default(),
+        }
+    }
+
+    // The kind of a number, if there is one; before prepare there is none.
+    pub(crate) fn kind_numbered(&self, number: u8) -> Option<Kind>
+        ensures { MatchOption result ((is_kind (measures_of self.now) number ≡ false) × (kind_of (measures_of self.now) number ≡ no_kind))
+            (λ k. (is_kind (measures_of self.now) number ≡ true) × (k ≡ kind_of (measures_of self.now) number)) }
+    {
+        self.measures.as_ref()?.kind(number)
+    }
+
     // What a slot of a prepared heap holds.
     fn slot(&self, slot: u8) -> Result<u16, Fault>
         ensures { MatchResult result
-            (λ x. (self.now.prepared ≡ true) × (slot < 192) × (x ≡ held self.now slot))
-            (λ e. ((self.now.prepared ≡ false) × (refusal e ≡ in_heap 12))
-            ⊎ ((self.now.prepared ≡ true) × (192 ≤ slot) × (refusal e ≡ in_heap 13))) }
+            (λ x. (prepared self.now ≡ true) × (slot < 192) × (x ≡ held self.now slot))
+            (λ e. ((prepared self.now ≡ false) × (refusal e ≡ in_heap 12))
+            ⊎ ((prepared self.now ≡ true) × (192 ≤ slot) × (refusal e ≡ in_heap 13))) }
     {
-        if !self.prepared {
+        if self.measures.is_none() {
             return Err(Fault::nowhere(Layer::Heap, Cause::Unprepared));
         }
         self.slots
@@ -132,9 +150,9 @@ impl Heap {
     // The words that may be born between two flips.
     fn birth_limit(&self) -> u16
         ensures value { result ≡ birth_limit self.now }
-        ensures small { result ≤ self.now.measures.limits.space }
+        ensures small { result ≤ (measures_of self.now).limits.space }
     {
-        let limits = self.measures.limits;
+        let limits = self.limits();
         if self.cycle.flipped {
             limits.space.saturating_sub(limits.live_words)
         } else {
@@ -145,7 +163,7 @@ impl Heap {
     // A slot takes a fresh object of a kind: all its words are 0 already.
     pub fn new_object(&mut self, slot: u8, kind: u8) -> Result<(), Fault>
         ensures answer { tells of_unit result ≡ judged (barred self.old (calls_new slot kind)) ok }
-        ensures heap { self.new ≡ taken (barred self.old (calls_new slot kind)) (birth self.old slot kind (size_in self.old.measures kind)) self.old }
+        ensures heap { self.new ≡ taken (barred self.old (calls_new slot kind)) (birth self.old slot kind (size_in (measures_of self.old) kind)) self.old }
     {
         self.slot(slot)?;
         let size = self
@@ -160,7 +178,7 @@ impl Heap {
         if number == 0 {
             return Err(Fault::nowhere(Layer::Heap, Cause::NoSpareHandle));
         }
-        let top = course.base as u32 + self.measures.limits.space as u32;
+        let top = course.base as u32 + self.limits().space as u32;
         self.table.bear(kind, top - born);
         self.cycle.course = Course {
             born: born as u16,

@@ -83,7 +83,7 @@ impl Heap {
     {
         self.table.age();
         self.mark_slots();
-        let space = self.measures.limits.space;
+        let space = self.limits().space;
         let base = space.saturating_sub(self.cycle.course.base);
         self.cycle = Cycle {
             phase: self.table.phase_after(),
@@ -104,7 +104,7 @@ impl Heap {
         ensures answer { tells of_step result ≡ judged (on_bounds self.old) absent }
         ensures heap { self.new ≡ taken (on_bounds self.old) (taken_up self.old) self.old }
     {
-        let limits = self.measures.limits;
+        let limits = self.limits();
         let tally = self.cycle.tally;
         let object = self.table.marked;
         let words = tally.words as u32 + self.kind_of(object).size as u32;
@@ -184,7 +184,7 @@ impl Heap {
         ensures { self.new ≡ swept self.old number }
     {
         self.table.sweep(number);
-        let next = if number < self.measures.limits.handles {
+        let next = if number < self.limits().handles {
             Phase::Sweeping(number + 1)
         } else {
             Phase::Clearing(0)
@@ -202,7 +202,7 @@ impl Heap {
         ensures heap { self.new ≡ (clear_step self.old (M.Readable.words memory.old) word).heap }
         ensures words { M.Readable.words memory.new ≡ (clear_step self.old (M.Readable.words memory.old) word).memory }
     {
-        let space = self.measures.limits.space;
+        let space = self.limits().space;
         let course = self.cycle.course;
         let other = space.saturating_sub(course.base);
         memory.set(other as usize + word as usize, 0)?;
@@ -223,7 +223,7 @@ impl Heap {
         ensures words { M.Readable.words memory.new ≡ (step self.old (M.Readable.words memory.old)).memory }
         ensures small { SmallStep self.old (M.Readable.words memory.old) }
     {
-        if !self.prepared {
+        if self.measures.is_none() {
             return Err(Fault::nowhere(Layer::Heap, Cause::Unprepared));
         }
         match (self.cycle.phase, self.cycle.course.mover, self.table.marked) {

@@ -49,7 +49,7 @@ pub struct Limits {
 }
 
 // The limits, and the kinds, which are numbered from 1.
-#[derive(Default, Drop)]
+#[derive(Drop)]
 struct Measures {
     limits: Limits,
     kinds: ArrayVec<Kind, 32>,
@@ -93,11 +93,10 @@ struct Cycle {
     tally: Report,
 }
 
-// Slots hold 0 for none, or a handle.
+// A heap has its measures once it is prepared. Slots hold 0 for none, or a handle.
 #[derive(Drop)]
 pub struct Heap {
-    prepared: bool,
-    measures: Measures,
+    measures: Option<Measures>,
     table: Table,
     slots: [u16; 192],
     cycle: Cycle,

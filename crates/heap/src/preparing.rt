@@ -80,8 +80,7 @@ impl Heap {
         ensures { result ≡ bare }
     {
         Heap {
-            prepared: false,
-            measures: Measures::default(),
+            measures: None,
             table: Table {
                 handles: [Handle::default(); 257],
                 spare: 0,
@@ -98,8 +97,7 @@ impl Heap {
     {
         let table = Table::spare(measures.limits.handles);
         Heap {
-            prepared: true,
-            measures,
+            measures: Some(measures),
             table,
             slots: [0; 192],
             cycle: Cycle::default(),

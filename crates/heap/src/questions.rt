@@ -1,7 +1,7 @@
 // What a heap tells of itself.
 ghost use Rattle.std.specs.Prelude.{◌≡◌, ◌≤◌, false};
 ghost use Rattle.heap.specs.Handles.{row};
-ghost use Rattle.heap.specs.Objects.{kind_of, loc};
+ghost use Rattle.heap.specs.Objects.{kind_of, loc, measures_of};
 ghost use Rattle.heap.specs.Answers.{of_option};
 ghost use Rattle.heap.specs.Room.{spares_to, spare_handles, free_words, is_idle, kind_size, extent as extent_of, in_use};
 
@@ -24,7 +24,7 @@ impl Heap {
     pub fn spare_handles(&self) -> u16
         ensures { result ≡ spare_handles self.now }
     {
-        self.table.spares(self.measures.limits.handles)
+        self.table.spares(self.limits().handles)
     }
 
     // How many words of the current space are neither born nor copied since the flip.
@@ -33,7 +33,7 @@ impl Heap {
     {
         let course = self.cycle.course;
         let used = course.born as u32 + course.settled as u32 + course.done as u32;
-        (self.measures.limits.space as u32).saturating_sub(used) as u16
+        (self.limits().space as u32).saturating_sub(used) as u16
     }
 
     // Whether no collection is under way.
@@ -47,15 +47,16 @@ impl Heap {
     pub fn kind_size(&self, kind: u8) -> Option<u8>
         ensures { of_option result ≡ kind_size self.now kind }
     {
-        self.measures.kind(kind).map(|kind| kind.size)
+        self.kind_numbered(kind).map(|kind| kind.size)
     }
 
     // The words of memory that the two spaces take; absent before prepare.
     pub fn extent(&self) -> Option<usize>
         ensures { of_option result ≡ extent_of self.now }
     {
-        self.prepared
-            .then_some(2 * self.measures.limits.space as usize)
+        self.measures
+            .as_ref()
+            .map(|measures| 2 * measures.limits.space as usize)
     }
 
     // What the slots hold, 0 for none.
@@ -75,10 +76,10 @@ impl Heap {
 
     // The kind of a handle's object.
     pub fn kind_of(&self, object: u16) -> Kind
-        ensures { result ≡ kind_of self.now.measures (row self.now.table object).kind }
+        ensures { result ≡ kind_of (measures_of self.now) (row self.now.table object).kind }
     {
         let kind = self.table.handle(object as usize).kind;
-        self.measures.kind(kind).unwrap_or_default()
+        self.kind_numbered(kind).unwrap_or_default()
     }
 
     // Where a word of a handle's object is: of the object that moves, words already copied are in the copy.

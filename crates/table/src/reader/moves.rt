@@ -40,7 +40,7 @@ impl<'a> Reader<'a> {
     }
 
     // A refusal where the reader stands.
-    pub(super) fn refuse(&self, cause: Cause) -> Fault
+    fn refuse(&self, cause: Cause) -> Fault
         ensures { refusal result ≡ misread_at (number_of cause) self.now.line self.now.column }
     {
         Fault::in_line(Layer::Text, cause, self.line, self.column)

@@ -99,8 +99,7 @@ impl<'a, R: Readable> Walk<'a, R> {
             (λ _. GoesOn h m self.old.finds self.new.finds × Rooted h self.new.finds (length h.slots))
             (LedAstray h m) }
     {
-        let heap = self.heap;
-        for held in heap.slots() {
+        for held in self.heap.slots() {
             self.visit(*held as u32)?;
         }
         Ok(())

@@ -29,10 +29,10 @@ impl Heap {
     pub(crate) fn limits(&self) -> Limits
         ensures { result ≡ (measures_of self.now).limits }
     {
-        match &self.measures {
-            Some(measures) => measures.limits,
-            None => Limits::default(),
-        }
+        self.measures
+            .as_ref()
+            .map(|measures| measures.limits)
+            .unwrap_or_default()
     }
 
     // The kind of a number, if there is one; before prepare there is none.

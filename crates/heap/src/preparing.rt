@@ -38,9 +38,10 @@ impl Measures {
             (λ m. (measures_fit limits kinds.now ≡ true) × (m.limits ≡ limits) × (m.kinds.items ≡ kinds.now))
             (λ e. (measures_fit limits kinds.now ≡ false) × (refusal e ≡ in_heap 11)) }
     {
-        let legal = limits.is_legal() && !kinds.is_empty() && all_legal(kinds);
         match ArrayVec::try_from(kinds) {
-            Ok(kinds) if legal => Ok(Measures { limits, kinds }),
+            Ok(kinds) if limits.is_legal() && !kinds.is_empty() && all_legal(&kinds) => {
+                Ok(Measures { limits, kinds })
+            }
             _ => Err(Fault::nowhere(Layer::Heap, Cause::WrongMeasures)),
         }
     }

@@ -49,11 +49,12 @@ impl fmt::Display for Outlook {
         } = self;
         writeln!(f, "plan,{period},{lateness},{steps},{span}")?;
         for release in releases {
-            let tick = release.tick;
-            match release.source {
-                Source::Task(number) => writeln!(f, "{tick},{number}")?,
-                Source::Collector => writeln!(f, "{tick},0")?,
-            }
+            let Release { tick, source, .. } = release;
+            let number = match source {
+                Source::Task(number) => *number,
+                Source::Collector => 0,
+            };
+            writeln!(f, "{tick},{number}")?;
         }
         Ok(())
     }

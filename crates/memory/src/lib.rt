@@ -108,6 +108,7 @@ impl Readable for Bytes<'_> {
 }
 
 impl Writable for Bytes<'_> {
+    #[tactic(auto, using(crate::proofs::WordBytes::length_words))]
     fn set(&mut self, place: usize, value: u32) -> Result<(), Fault>
         ensures sets { Sets (words_of self.old.bytes.now) place value result (words_of self.new.bytes.now) }
         ensures bytes { self.new.bytes.now ≡ stored self.old.bytes.now place value }

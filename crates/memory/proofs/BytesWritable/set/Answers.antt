@@ -2,18 +2,6 @@ use Rattle.std.proofs.Common.{rules, ◌∙◌, arith}
 use Rattle.memory.proofs.WordBytes.{length_words, put_mid4, words_put_mid, tail_put_mid}
 use Rattle.memory.proofs.BytesWritable.set.Goals as goal
 
-pub returns-then-place-len-clause-bytes : goal.returns-then-place-len-clause-bytes
-returns-then-place-len-clause-bytes c = search (rules, length_words)
-
-pub overflow_mul-at : goal.overflow_mul-at
-overflow_mul-at c = omega (arith, length_words c.args.self.now.bytes.now)
-
-pub overflow_add-at : goal.overflow_add-at
-overflow_add-at c = omega (arith, length_words c.args.self.now.bytes.now)
-
-pub slice_bounds-copy_from_slice-end : goal.slice_bounds-copy_from_slice-end
-slice_bounds-copy_from_slice-end c = omega (arith, length_words c.args.self.now.bytes.now)
-
 pub returns-clause-sets : goal.returns-clause-sets
 returns-clause-sets c =
     let l = length_words c.args.self.now.bytes.now in

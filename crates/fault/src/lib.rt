@@ -1,9 +1,9 @@
 // Why a call is refused, by which layer, and where.
 #![tactic(auto)]
 
-ghost use Rattle.std.specs.Prelude.{◌≡◌};
+ghost use Rattle.std.specs.Prelude.{◌≡◌, Some};
 ghost use Rattle.fault.specs.Told.{number_of, layer_of, refusal, past_end, nowhere, in_line};
-ghost use Rattle.fault.specs.Words.{layer_word};
+ghost use Rattle.fault.specs.Words.{layer_word, cause_words, place_words, fault_words};
 
 use std::fmt;
 
@@ -154,6 +154,8 @@ impl Fault {
 
 // A few words for a person.
 impl fmt::Display for Cause {
+    ghost output = { λ c. Some (cause_words c) };
+
     fn fmt<W: fmt::Write>(&self, f: &mut fmt::Formatter<W>) -> fmt::Result {
         f.write_str(match self {
             Cause::PastEnd => "the place is past the end of the memory",
@@ -188,12 +190,16 @@ impl fmt::Display for Cause {
 }
 
 impl fmt::Display for Layer {
+    ghost output = { λ l. Some (layer_word (layer_of l)) };
+
     fn fmt<W: fmt::Write>(&self, f: &mut fmt::Formatter<W>) -> fmt::Result {
         f.write_str(self.name())
     }
 }
 
 impl fmt::Display for Place {
+    ghost output = { λ p. Some (place_words p) };
+
     fn fmt<W: fmt::Write>(&self, f: &mut fmt::Formatter<W>) -> fmt::Result {
         match *self {
             Place::Nowhere => Ok(()),
@@ -205,6 +211,8 @@ impl fmt::Display for Place {
 }
 
 impl fmt::Display for Fault {
+    ghost output = { λ f. Some (fault_words f) };
+
     fn fmt<W: fmt::Write>(&self, f: &mut fmt::Formatter<W>) -> fmt::Result {
         let number = self.number();
         let Fault {

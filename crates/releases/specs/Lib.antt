@@ -1,2 +1,3 @@
 pub mod Releases
 pub mod Foretold
+pub mod Printed

@@ -1,6 +1,8 @@
 // What a table text foretells: the plan and its first releases, or the refusal.
+ghost use Rattle.std.specs.Prelude.{◌≡◌, Some};
 ghost use Rattle.admission.specs.Admitted.{admitted};
 ghost use Rattle.releases.specs.Foretold.{Foretold};
+ghost use Rattle.releases.specs.Printed.{source_number, plan_line, release_line, outlook_text, forecast_text};
 
 use crate::{FORECAST, first_releases};
 use admission::{Plan, admit};
@@ -37,24 +39,56 @@ pub fn foretell(text: &[u8]) -> Result<Outlook, Fault>
     })
 }
 
-// Lines of numbers between commas; a task by its number, and 0 for the collector.
-impl fmt::Display for Outlook {
+// A task by its number, and 0 for the collector.
+fn number_of(source: Source) -> u8
+    ensures { result ≡ source_number source }
+{
+    match source {
+        Source::Task(number) => number,
+        Source::Collector => 0,
+    }
+}
+
+// The line of a plan, of which the releases come after.
+#[derive(Clone, Copy)]
+struct PlanLine<'a>(&'a Outlook);
+
+impl fmt::Display for PlanLine<'_> {
+    ghost output = { λ l. Some (plan_line l.0.now) };
+
     fn fmt<W: fmt::Write>(&self, f: &mut fmt::Formatter<W>) -> fmt::Result {
         let Outlook {
             period,
             lateness,
             steps,
             span,
-            releases,
-        } = self;
-        writeln!(f, "plan,{period},{lateness},{steps},{span}")?;
-        for release in releases {
-            let Release { tick, source, .. } = release;
-            let number = match source {
-                Source::Task(number) => *number,
-                Source::Collector => 0,
-            };
-            writeln!(f, "{tick},{number}")?;
+            ..
+        } = self.0;
+        writeln!(f, "plan,{period},{lateness},{steps},{span}")
+    }
+}
+
+// The line of a release.
+#[derive(Clone, Copy)]
+struct ReleaseLine(Release);
+
+impl fmt::Display for ReleaseLine {
+    ghost output = { λ l. Some (release_line l.0) };
+
+    fn fmt<W: fmt::Write>(&self, f: &mut fmt::Formatter<W>) -> fmt::Result {
+        let tick = self.0.tick;
+        let number = number_of(self.0.source);
+        writeln!(f, "{tick},{number}")
+    }
+}
+
+impl fmt::Display for Outlook {
+    ghost output = { λ o. Some (outlook_text o) };
+
+    fn fmt<W: fmt::Write>(&self, f: &mut fmt::Formatter<W>) -> fmt::Result {
+        PlanLine(self).fmt(f)?;
+        for release in &self.releases {
+            ReleaseLine(*release).fmt(f)?;
         }
         Ok(())
     }
@@ -65,6 +99,8 @@ impl fmt::Display for Outlook {
 pub struct Forecast(pub Result<Outlook, Fault>);
 
 impl fmt::Display for Forecast {
+    ghost output = { λ f. Some (forecast_text f.0) };
+
     fn fmt<W: fmt::Write>(&self, f: &mut fmt::Formatter<W>) -> fmt::Result {
         match &self.0 {
             Ok(outlook) => outlook.fmt(f),

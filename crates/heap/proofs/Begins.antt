@@ -1,16 +1,11 @@
 -- The kinds of a heap that begins, and its spare handles, in the words of std.
-use Rattle.std.proofs.Common.{◌≡◌, ℕ, false, zero, suc, ◌+◌, ◌-◌, ◌<◌, ◌≤◌, cond, ◌&&◌, List, [], ◌∷◌, get_or, sum_by, count_by, refl, ap, sym, subst, inl, inr, ◌∙◌, add-one, arith}
+use Rattle.std.proofs.Common.{◌≡◌, ℕ, zero, suc, ◌+◌, ◌<◌, ◌≤◌, cond, ◌&&◌, List, [], ◌∷◌, get_or, refl, ap, subst, inl, inr, ◌∙◌, add-one, arith}
 use denote.Param.Members.{Mut}
 use Rattle.std.specs.Fn.{Called}
 use Rattle.std.specs.Array.{IsFromFnResult, IsFromFnResultFrom}
-use Rattle.std.specs.declared.ops.RangeInclusive.{RangeInclusive}
-use Rattle.std.specs.Range.{range_inclusive_left, range_inclusive_steps}
-use Rattle.std.proofs.lemmas.Iterator.{YieldsList}
-use Rattle.std.proofs.lemmas.Iterator.Consumers.{YieldsList-from_shown}
-use Rattle.std.specs.List.{range_with_len, list_all}
-use Rattle.std.proofs.lemmas.Bool.{cases_eq, cases_Bool}
-use Rattle.std.proofs.lemmas.List.{map-id}
-use Rattle.std.proofs.lemmas.List.FromFn.{length-range_with_len, fill_by_all, sum_by-map-range_with_len_more}
+use Rattle.std.specs.List.{list_all}
+use Rattle.std.proofs.lemmas.Bool.{cases_eq}
+use Rattle.std.proofs.lemmas.List.FromFn.{fill_by_all}
 use Rattle.kinds.specs.declared.Kind.{Kind}
 use Rattle.kinds.specs.Maps.{fits}
 use Rattle.heap.specs.declared.Handle.{Handle}
@@ -24,14 +19,13 @@ unfolding all_fit
 fit_each [] = refl
 fit_each (k ∷ ks) = ap (λ b. fits k && b) (fit_each ks)
 
-pub spares_counted : (t : Table) (n : ℕ) → spares_to t n ≡ count_by (λ x. is_spare (state_of t x)) (range_with_len 1 n)
+pub spares_none : (t : Table) → spares_to t 0 ≡ 0
 unfolding spares_to
-spares_counted t zero = refl
-spares_counted t (suc n) =
-    let g : ℕ → ℕ = λ x. cond (is_spare (state_of t x)) 1 0 in
-    let more : sum_by g (range_with_len 1 (n + 1)) ≡ sum_by g (range_with_len 1 n) + g (suc n) =
-    simp map-id at (sum_by-map-range_with_len_more g (λ x. x) 1 n (suc n) (omega arith)) in
-    ap (λ m. m + g (suc n)) (spares_counted t n) ∙ sym (rw add-one at more)
+spares_none t = refl
+
+pub spares_more : (t : Table) (n : ℕ) → spares_to t (n + 1) ≡ spares_to t n + cond (is_spare (state_of t (n + 1))) 1 0
+unfolding spares_to
+spares_more t n = rw add-one
 
 -- an array made by calls that leave their closure as it is
 made_by : {F X : Type 0} (g : Mut F (ℕ × Unit {0}) X) (h : ℕ → X) (f : F) → ((x : ℕ) (r : X) (q : F) → Called g f (x, tt) r q → (q ≡ f) × (r ≡ h x)) → (xs : List X) (i n : ℕ) → IsFromFnResultFrom g f xs i n
@@ -49,27 +43,3 @@ pub spares_laid : {F : Type 0} (g : Mut F (ℕ × Unit {0}) Handle) (f : F) (las
 unfolding spare_rows
 spares_laid g f last n xs m each =
     fill_by_all (spare_row last) xs n blank m.long (λ k l. made_by g (spare_row last) f each xs 0 n m.each k blank (omega arith) (omega arith))
-
-abbrev left_of : RangeInclusive ℕ → ℕ
-left_of s = range_inclusive_left (λ a b. b - a) s
-
--- the numbers come one after the other
-each_comes : (s : RangeInclusive ℕ) → YieldsList (range_inclusive_steps (λ a b. b - a) (λ x y. y ≡ x + 1)) (λ x. x) s (range_with_len s.start (left_of s))
-each_comes s =
-    YieldsList-from_shown (range_inclusive_steps (λ a b. b - a) (λ x y. y ≡ x + 1)) (λ x. x) (λ r. range_with_len r.start (left_of r))
-    (λ r t n. length-range_with_len r.start (left_of r) ∙ n.1.0)
-    (λ r x t n.
-    let begins : x ≡ r.start = n.1.0 in
-    let one : range_with_len r.start (left_of r) ≡ r.start ∷ range_with_len (r.start + 1) (left_of t) = rw (sym n.1.1, add-one) in
-    elim (cases_Bool t.exhausted) [
-      | inl e ↦ (let none : left_of t ≡ 0 = rw e in one ∙ rw (begins, none))
-      | inr e ↦ (let next = n.1.2 e in one ∙ rw (begins, next))
-    ])
-    s
-
--- 1, 2, .. up to the last
-pub counts_up : (s : RangeInclusive ℕ) (last : ℕ) → s.start ≡ 1 → s.end ≡ last → s.exhausted ≡ false → YieldsList (range_inclusive_steps (λ a b. b - a) (λ x y. y ≡ x + 1)) (λ x. x) s (range_with_len 1 last)
-counts_up s last a b e =
-    let n : left_of s ≡ last = rw (e, a, b) (omega arith) in
-    let is : range_with_len s.start (left_of s) ≡ range_with_len 1 last = rw (n, a) in
-    subst (YieldsList (range_inclusive_steps (λ a b. b - a) (λ x y. y ≡ x + 1)) (λ x. x) s) is (each_comes s)

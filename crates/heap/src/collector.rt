@@ -100,6 +100,7 @@ impl Heap {
     }
 
     // The last marked handle starts to move, if the declared live bounds allow.
+    #[inline]
     fn take_up(&mut self) -> Result<Option<Report>, Fault>
         ensures answer { tells of_step result ≡ judged (on_bounds self.old) absent }
         ensures heap { self.new ≡ taken (on_bounds self.old) (taken_up self.old) self.old }
@@ -122,6 +123,7 @@ impl Heap {
     }
 
     // One more word of the object that moves is copied: after the last its handle names the copy.
+    #[inline]
     fn advance(&mut self)
         ensures { self.new ≡ advanced self.old }
     {

@@ -64,7 +64,9 @@ impl Table {
         ensures value { result ≡ is_spare (state_of self.now number) }
         ensures past { 257 ≤ number → result ≡ true }
     {
-        self.handle(number).state == State::Spare
+        self.handles
+            .get(number)
+            .is_none_or(|handle| handle.state == State::Spare)
     }
 
     // The handle that a reference word names: 0 for none, or one in use.
